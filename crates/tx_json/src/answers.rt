@@ -12,6 +12,7 @@ use crate::members::{begin_list, begin_object, end_list, end_object, put_count, 
 use crate::replies::put_reply;
 use crate::state::put_state;
 use std::alloc::{AllocError, Global};
+use std::mem;
 use tx_base::{NoMemory, Reply};
 use tx_core::Machine;
 
@@ -108,18 +109,26 @@ fn put_item(writer: &mut LineWriter, line: &str) -> Result<(), AllocError>
     writer.string(line)
 }
 
-/// The reply of a step: where it was accepted with its number, as `{"step":7,"reply":"ok","ret":0}`.
+/// Puts the reply of a step in place of what a text had, in its room: where it was accepted with its
+/// number, as `{"step":7,"reply":"ok","ret":0}`.
 ///
-/// NoMemory where a growth is refused.
-pub fn step_answer(alloc: Global, number: usize, reply: &Reply) -> Result<String, NoMemory>
-    ensures { IfOk result (λ text. IsLineOf (step_answer number reply.now) (string_bytes text)) }
+/// NoMemory where a growth is refused; the text is empty then.
+pub fn put_step_answer(
+    alloc: Global,
+    text: &mut String,
+    number: usize,
+    reply: &Reply,
+) -> Result<(), NoMemory>
+    ensures { OnOk result
+        (IsLineOf (step_answer number reply.now) (string_bytes text.new)) }
 {
-    let mut writer = LineWriter::new(alloc);
+    let mut writer = LineWriter::over(mem::replace(text, String::new(alloc)));
     begin_object(&mut writer)?;
     put_number(&mut writer, number, reply)?;
     put_reply(alloc, &mut writer, reply)?;
     end_object(&mut writer)?;
-    writer.into_text()
+    *text = writer.into_text()?;
+    Ok(())
 }
 
 /// Appends the number of a step, where it was accepted.

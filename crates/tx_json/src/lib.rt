@@ -16,7 +16,7 @@ mod txns;
 
 pub use answers::{
     begin_lines, empty_answer, end_answer, entry_answer, error_answer, lines_answer,
-    position_answer, put_entry, state_answer, step_answer, trial_answer,
+    position_answer, put_entry, put_step_answer, state_answer, trial_answer,
 };
 pub use holders::{Holder, put_holders};
 pub use line::LineWriter;

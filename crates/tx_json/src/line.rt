@@ -40,6 +40,17 @@ impl LineWriter {
         }
     }
 
+    /// A line before its first token, in the room that a text had.
+    pub fn over(text: String) -> LineWriter
+        ensures { result ≡ [] }
+    {
+        let mut bytes = text.into_bytes();
+        bytes.clear();
+        LineWriter {
+            writer: Writer::new(bytes),
+        }
+    }
+
     /// The text of the line, with its end.
     ///
     /// NoMemory where a growth is refused.

@@ -15,7 +15,7 @@ use crate::made::make_step;
 use std::alloc::Global;
 use tx_base::{Reply, Step};
 use tx_journal::Session;
-use tx_json::step_answer;
+use tx_json::put_step_answer;
 use tx_lines::{Command, Fault, Schedule, put};
 
 /// A line for what each step of a schedule is answered, and one for the state after the last. The only
@@ -51,20 +51,28 @@ fn put_replies(
     ensures fault { IfErr result (λ fault. fault ≡ NoMemory) }
 {
     let mut reply = Reply::Ended;
+    let mut line = String::new(alloc);
     for step in steps {
         make_step(alloc, session, step, &mut reply)?;
-        put_reply(alloc, text, session.len(), &reply)?;
+        put_reply(alloc, text, &mut line, session.len(), &reply)?;
     }
     Ok(())
 }
 
-/// Appends the line of a reply, behind so many steps that were accepted.
-fn put_reply(alloc: Global, text: &mut String, count: usize, reply: &Reply) -> Result<(), Fault>
+/// Appends the line of a reply, behind so many steps that were accepted. It is made in the room of the
+/// line before.
+fn put_reply(
+    alloc: Global,
+    text: &mut String,
+    line: &mut String,
+    count: usize,
+    reply: &Reply,
+) -> Result<(), Fault>
     ensures text { OnOk result (string_bytes text.new
         ≡ string_bytes text.old ++ line_of (step_answer count reply.now)) }
     ensures fault { IfErr result (λ fault. fault ≡ NoMemory) }
 {
-    let line = step_answer(alloc, count, reply)?;
+    put_step_answer(alloc, line, count, reply)?;
     put(text, line.as_str())?;
     Ok(())
 }

@@ -88,6 +88,5 @@ impl Form {
 fn put_json(alloc: Global, number: usize, reply: &Reply, text: &mut String) -> Result<(), NoMemory>
     ensures { OnOk result (SaysReply Form.Json number reply.now (string_bytes text.new)) }
 {
-    *text = tx_json::step_answer(alloc, number, reply)?;
-    Ok(())
+    tx_json::put_step_answer(alloc, text, number, reply)
 }
