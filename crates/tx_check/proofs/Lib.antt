@@ -22,6 +22,7 @@ pub mod KindsFound
 pub mod KnownLabels
 pub mod Numbered
 pub mod OneFault
+pub mod OwnKinds
 pub mod OwnLines
 pub mod OwnLong
 pub mod ProgramTexts

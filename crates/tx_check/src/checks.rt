@@ -27,6 +27,7 @@ use crate::kinds::{Kind, kind_of};
 use crate::labels::Labels;
 use crate::own::{TextFrom, own_trouble};
 use crate::places::{Part, Place, TextLine};
+use crate::right::right_kind;
 use crate::tell::tell;
 use crate::trouble::Trouble;
 use std::alloc::Global;
@@ -47,8 +48,21 @@ use tx_plain::{MeantLines, Room};
 /// Lines count from 1 and columns in bytes from 1, both in the text as it is given; the column after
 /// a line's last byte stands for its end.
 ///
-/// Memory is taken for what is told alone. The only error is that such a growth was refused.
+/// A text that is right is read once. Where memory for that is refused, it is done without: the only error
+/// is that a growth of what is told was refused.
 pub fn check_text(alloc: Global, text: &[u8]) -> Result<String, NoMemory>
+    ensures told { IfOk result (λ told. IsToldOf text.now (string_bytes told)) }
+    ensures kind { IfOk result (λ told. (fault : Fault) → IsMeantFault text.now fault →
+        BeginsOfKind (kind_of_fault fault) (string_bytes told)) }
+{
+    match right_kind(alloc, text) {
+        Some(_kind) => Ok(String::new(alloc)),
+        None => tell_text(alloc, text),
+    }
+}
+
+/// As `check_text`. Memory is taken for what is told alone.
+pub fn tell_text(alloc: Global, text: &[u8]) -> Result<String, NoMemory>
     ensures told { IfOk result (λ told. IsToldOf text.now (string_bytes told)) }
     ensures kind { IfOk result (λ told. (fault : Fault) → IsMeantFault text.now fault →
         BeginsOfKind (kind_of_fault fault) (string_bytes told)) }

@@ -12,13 +12,14 @@ ghost use Rattle.tx_check.specs.Told.{TellsFrom};
 ghost use Rattle.tx_plain.specs.Meant.{meant_of, own_line};
 ghost use Rattle.tx_plain.specs.MeantLines.{left_of};
 
-use crate::checks::{check_text, line_of, tell_from};
+use crate::checks::{line_of, tell_from, tell_text};
 use crate::faults::first_fault;
 use crate::kinds::{Kind, kind_of};
 use crate::labels::Labels;
 use crate::own::{TextFrom, own_word};
 use crate::reader_faults::fault_in;
 use crate::readers::{Reader, heading, kind_trouble};
+use crate::right::right_kind;
 use crate::tell::tell;
 use crate::trouble::{LineTrouble, Trouble};
 use std::alloc::{AllocError, Global};
@@ -34,33 +35,46 @@ const PICTURE_LINES: u64 = 201;
 /// each line at fault behind it where the command of the text's own kind finds it at fault there too.
 /// Where no command is named, what the text was read as stands first.
 ///
-/// Memory is taken for what is told and for what the command would read. The only error is that such
-/// a growth was refused.
+/// Memory is taken for what is told and for what the command would read. The only error is that such a
+/// growth was refused; what the command of the text's own kind would read is done without, where it was.
 pub fn check_text_for(alloc: Global, reader: Reader, text: &[u8]) -> Result<String, NoMemory>
     ensures { IfOk result (λ said. IsSaidFor reader text.now (string_bytes said)) }
 {
     let told = told_for(alloc, reader, text)?;
     match reader {
-        Reader::Any => Ok(headed(alloc, kind_of(MeantLines::of(text)), told)?),
+        Reader::Any => Ok(headed(alloc, text, told)?),
         _ => Ok(told),
     }
 }
 
 /// Puts what a text was read as before what is told of it.
-fn headed(alloc: Global, kind: Kind, told: String) -> Result<String, AllocError>
-    ensures { IfOk result (λ said. string_bytes said ≡ spec.headed kind (string_bytes told)) }
+fn headed(alloc: Global, text: &[u8], told: String) -> Result<String, AllocError>
+    ensures { IfOk result (λ said. string_bytes said
+        ≡ spec.headed (kinds_spec.kind_of (meant_of text.now)) (string_bytes told)) }
 {
     if told.is_empty() {
         return Ok(told);
     }
     let mut said = String::new(alloc);
-    put(&mut said, heading(kind))?;
+    put(&mut said, heading(kind_of(MeantLines::of(text))))?;
     put(&mut said, told.as_str())?;
     Ok(said)
 }
 
 /// What is told of a text for that command.
 fn told_for(alloc: Global, reader: Reader, text: &[u8]) -> Result<String, NoMemory>
+    ensures { IfOk result (λ told. IsToldFor reader text.now (string_bytes told)) }
+{
+    if let Some(kind) = right_kind(alloc, text)
+        && reader.kind(kind).is(kind)
+    {
+        return told_of_kind(alloc, reader, text);
+    }
+    tell_for(alloc, reader, text)
+}
+
+/// The same, where the command of the text's own kind is not known to read it.
+fn tell_for(alloc: Global, reader: Reader, text: &[u8]) -> Result<String, NoMemory>
     ensures { IfOk result (λ told. IsToldFor reader text.now (string_bytes told)) }
 {
     let meant = kind_of(MeantLines::of(text));
@@ -99,7 +113,7 @@ fn told_as(alloc: Global, kind: Kind, meant: Kind, text: &[u8]) -> Result<String
     ensures { IfOk result (λ told. IsToldAs kind text.now (string_bytes told)) }
 {
     if kind.is(meant) {
-        check_text(alloc, text)
+        tell_text(alloc, text)
     } else {
         told_as_other(alloc, kind, text)
     }

@@ -83,7 +83,7 @@ fn has_debug(lines: MeantLines<'_>) -> bool
     let mut room = Room::new();
     let mut left = lines;
     while let Some((line, rest)) = left.split() {
-        if line.meaning(&mut room) == b"debug".as_slice() {
+        if line.is_debug(&mut room) {
             return true;
         }
         left = rest;

@@ -2,11 +2,12 @@
 //! What is told of a text that can't be read, for people: a line of the answer for each line at
 //! fault, with its number, the column of the word at fault, and what was expected there.
 //!
-//! `check_text` looks for the fault at which the command of the text's kind finds it (`kinds.rt` says
-//! which kind a text is, `places.rt` what is to stand where, `faults.rt` goes over the lines). It keeps
-//! none of them, and so takes no memory for that. Where there is no fault, nothing is told. Else the
-//! line of the fault is told first, and then those behind it that are at fault in their places. By
-//! the readers' definitions a text is read or has one fault (`laws.rt`).
+//! `check_text` first reads the text (`right.rt`): where that is one of its kind, nothing is told. Else, and
+//! where memory for that was refused, it looks for the fault at which the command of the text's kind finds
+//! it (`kinds.rt` says which kind a text is, `places.rt` what is to stand where, `faults.rt` goes over the
+//! lines). It keeps none of them, and so takes no memory for that. The line of the fault is told first, and
+//! then those after it that are at fault in their places. By the readers' definitions a text is read or
+//! has one fault (`laws.rt`).
 //! `words.rt` cuts a line into words with their columns, and `diagnose/` looks at the words and
 //! says what is wrong: a `Trouble`. It asks the readers of tx_lines about each word, so that
 //! nothing passes as right that the grammar refuses. `sentences.rt` has the words in which a
@@ -41,6 +42,7 @@ mod placed;
 mod places;
 mod reader_faults;
 mod readers;
+mod right;
 mod sentences;
 mod session;
 mod tell;

@@ -1,8 +1,7 @@
 -- The meant lines of a text, one after another, and the own lines that mean them.
-use Rattle.std.proofs.Common.{◌≡◌, ◌≢◌, ◌∙◌, ℕ, suc, ◌+◌, Bool, true, false, List, [], ◌∷◌, ◌++◌, codes, length, is_some, nat_lt, slice_index_or, Option, Some, None, if◌then◌else◌, inl, inr, refl, ap, sym, subst, arith}
+use Rattle.std.proofs.Common.{◌≡◌, ◌≢◌, ◌∙◌, ◌⊎◌, ℕ, suc, ◌+◌, Bool, true, false, List, [], ◌∷◌, ◌++◌, codes, length, is_some, nat_lt, slice_index_or, Option, Some, None, if◌then◌else◌, inl, inr, refl, ap, sym, subst, arith}
 use Rattle.std.proofs.lemmas.Bool.{both_ways}
 use Rattle.std.proofs.lemmas.Bool.Decides.{eqb_tells}
-use Rattle.tx_lines.specs.Programs.{label_front}
 use Rattle.tx_lines.specs.Schedule.{after_line, first_line}
 use Rattle.tx_plain.specs.Lines.{plain_line, plain_of_words, plain_others, short_or, spaced, stage_after}
 use Rattle.tx_plain.specs.MeantLines.{MeanFrom}
@@ -105,44 +104,67 @@ abbrev HasNoSpace : List ℕ → Type 0
 HasNoSpace [] = Unit {0}
 HasNoSpace (byte ∷ bytes) = (byte ≢ 32) × HasNoSpace bytes
 
--- words that stand behind one another begin with a word that the first of them begins with
-front_kept : (front first name rest : List ℕ) (others : List (List ℕ)) → HasNoSpace front → first ++ spaced others ≡ front ++ 32 ∷ name → (behind : List ℕ) × (first ++ rest ≡ front ++ behind)
-front_kept [] first name rest others none same = (first ++ rest, refl)
-front_kept (byte ∷ front) [] name rest [] none same = absurd (cc)
-front_kept (byte ∷ front) [] name rest (word ∷ others) none same =
+-- words one after another begin with a word that the first of them begins with
+front_kept : (front first tail rest : List ℕ) (others : List (List ℕ)) → HasNoSpace front → first ++ spaced others ≡ front ++ tail → (behind : List ℕ) × (first ++ rest ≡ front ++ behind)
+front_kept [] first tail rest others none same = (first ++ rest, refl)
+front_kept (byte ∷ front) [] tail rest [] none same = absurd (cc)
+front_kept (byte ∷ front) [] tail rest (word ∷ others) none same =
     let space : 32 ≡ byte = cc in absurd (none.0 (sym space))
-front_kept (byte ∷ front) (first ∷ firsts) name rest others none same =
+front_kept (byte ∷ front) (first ∷ firsts) tail rest others none same =
     let here : first ≡ byte = cc in
-    let behind : firsts ++ spaced others ≡ front ++ 32 ∷ name = cc in
-    let later = front_kept front firsts name rest others none.1 behind in
+    let behind : firsts ++ spaced others ≡ front ++ tail = cc in
+    let later = front_kept front firsts tail rest others none.1 behind in
     (later.0, ap (λ (t : List ℕ). first ∷ t) later.1 ∙ ap (λ (b : ℕ). b ∷ (front ++ later.0)) here)
+
+-- a word that stands first in a line of its own kind
+abbrev pub IsOpening : List ℕ → Type 0
+IsOpening word = (word ≡ codes "label") ⊎ (word ≡ codes "debug")
 
 label_word : HasNoSpace (codes "label")
 label_word = ((λ same. omega (arith, same)), ((λ same. omega (arith, same)), ((λ same. omega (arith, same)), ((λ same. omega (arith, same)), ((λ same. omega (arith, same)), tt)))))
 
--- a line whose meaning begins as a label begins with that word
-abbrev pub LikeLabel : List ℕ → Type 0
-LikeLabel line = (rest : List ℕ) × (next_from line ≡ codes "label" ++ rest)
+debug_word : HasNoSpace (codes "debug")
+debug_word = ((λ same. omega (arith, same)), ((λ same. omega (arith, same)), ((λ same. omega (arith, same)), ((λ same. omega (arith, same)), ((λ same. omega (arith, same)), tt)))))
 
-same_like : (line name : List ℕ) → line ≡ label_front ++ name → LikeLabel line
-same_like line name same = (32 ∷ name, ap next_from same)
+opens_bare : (word : List ℕ) → IsOpening word → HasNoSpace word
+opens_bare word (inl is) = subst HasNoSpace (sym is) label_word
+opens_bare word (inr is) = subst HasNoSpace (sym is) debug_word
 
-either_like : (over : Bool) (line plain name : List ℕ) → bare (if over then Some line else Some plain) ≡ label_front ++ name → (plain ≡ label_front ++ name → LikeLabel line) → LikeLabel line
-either_like true line plain name same like = same_like line name same
-either_like false line plain name same like = like same
+opens_first : (word rest : List ℕ) → IsOpening word → next_from (word ++ rest) ≡ word ++ rest
+opens_first word rest (inl is) = subst (λ (w : List ℕ). next_from (w ++ rest) ≡ w ++ rest) (sym is) refl
+opens_first word rest (inr is) = subst (λ (w : List ℕ). next_from (w ++ rest) ≡ w ++ rest) (sym is) refl
 
-words_like : (stage : Stage) (line name : List ℕ) (words : List (List ℕ)) → words_in line ≡ words → bare (short_or line (plain_of_words stage words)) ≡ label_front ++ name → LikeLabel line
-words_like stage line name [] are same = absurd (cc)
-words_like stage line name (first ∷ others) are same =
-    either_like (nat_lt 512 (length (first ++ spaced (plain_others stage first others)))) line (first ++ spaced (plain_others stage first others)) name same (λ plain.
+-- a line whose meaning begins with such a word begins with it
+abbrev pub BeginsSo : List ℕ → List ℕ → Type 0
+BeginsSo word line = (rest : List ℕ) × (next_from line ≡ word ++ rest)
+
+same_begins : (word line tail : List ℕ) → IsOpening word → line ≡ word ++ tail → BeginsSo word line
+same_begins word line tail opens same = (tail, ap next_from same ∙ opens_first word tail opens)
+
+either_begins : (over : Bool) (word line plain tail : List ℕ) → IsOpening word → bare (if over then Some line else Some plain) ≡ word ++ tail → (plain ≡ word ++ tail → BeginsSo word line) → BeginsSo word line
+either_begins true word line plain tail opens same begins = same_begins word line tail opens same
+either_begins false word line plain tail opens same begins = begins same
+
+no_words : (word tail : List ℕ) → IsOpening word → [] ≡ word ++ tail → ⊥
+no_words word tail (inl is) same =
+    let bad : [] ≡ codes "label" ++ tail = same ∙ ap (λ (w : List ℕ). w ++ tail) is in absurd (cc)
+no_words word tail (inr is) same =
+    let bad : [] ≡ codes "debug" ++ tail = same ∙ ap (λ (w : List ℕ). w ++ tail) is in absurd (cc)
+
+words_begin : (stage : Stage) (word line tail : List ℕ) (words : List (List ℕ)) → IsOpening word → words_in line ≡ words → bare (short_or line (plain_of_words stage words)) ≡ word ++ tail → BeginsSo word line
+words_begin stage word line tail [] opens are same = absurd (no_words word tail opens same)
+words_begin stage word line tail (first ∷ others) opens are same =
+    let plain = first ++ spaced (plain_others stage first others) in
+    either_begins (nat_lt 512 (length plain)) word line plain tail opens same (λ spelled.
     let found = first_found line first others are in
-    let kept = front_kept (codes "label") first name found.0 (plain_others stage first others) label_word plain in
+    let kept = front_kept word first tail found.0 (plain_others stage first others) (opens_bare word opens) spelled in
     (kept.0, found.1 ∙ kept.1))
 
-long_like : (over : Bool) (line name : List ℕ) (short : Option (List ℕ)) → bare (if over then Some line else short) ≡ label_front ++ name → (bare short ≡ label_front ++ name → LikeLabel line) → LikeLabel line
-long_like true line name short same like = same_like line name same
-long_like false line name short same like = like same
+long_begins : (over : Bool) (word line tail : List ℕ) (short : Option (List ℕ)) → IsOpening word → bare (if over then Some line else short) ≡ word ++ tail → (bare short ≡ word ++ tail → BeginsSo word line) → BeginsSo word line
+long_begins true word line tail short opens same begins = same_begins word line tail opens same
+long_begins false word line tail short opens same begins = begins same
 
-pub like_label : (stage : Stage) (line name : List ℕ) → bare (plain_line stage line) ≡ label_front ++ name → LikeLabel line
-like_label stage line name same =
-    long_like (nat_lt 512 (length line)) line name (short_or line (plain_of_words stage (words_in line))) same (words_like stage line name (words_in line) refl)
+pub meaning_begins : (stage : Stage) (word line tail : List ℕ) → IsOpening word → bare (plain_line stage line) ≡ word ++ tail → BeginsSo word line
+meaning_begins stage word line tail opens same =
+    long_begins (nat_lt 512 (length line)) word line tail (short_or line (plain_of_words stage (words_in line))) opens same
+    (words_begin stage word line tail (words_in line) opens refl)

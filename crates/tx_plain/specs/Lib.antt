@@ -13,6 +13,7 @@ pub mod FirstLines
 pub mod MeantLines
 pub mod MeantPrograms
 pub mod MeantSchedules
+pub mod MeantTexts
 pub mod MeantWalks
 pub mod Plain
 pub mod Laws

@@ -9,11 +9,12 @@
 //! is known which line of the person's it comes from. A text of version 2 means itself, but for its
 //! header (`laws.rt`). A line that comes alone means what it means behind the header of a schedule
 //! (`single.rt`). Schedules, with commands or without, and programs are read line by line
-//! (`meant_lines.rt`, `third.rt`, `schedules.rt`, `walks.rt`, `programs.rt`).
+//! (`meant_lines.rt`, `first_lines.rt`, `texts.rt`, `schedules.rt`, `walks.rt`, `programs.rt`).
 
 mod arguments;
 mod byte_words;
 mod command;
+mod first_lines;
 mod laws;
 mod lines;
 mod meant;
@@ -31,7 +32,7 @@ mod single;
 mod spellings;
 mod stage;
 mod strings;
-mod third;
+mod texts;
 mod walks;
 mod words;
 
@@ -47,5 +48,6 @@ pub use room::Room;
 pub use schedules::read_schedule;
 pub use signals::signal;
 pub use single::plain_line;
+pub use texts::{Text, read_text};
 pub use walks::read_walk;
 pub use words::{Word, split_word, words_in};

@@ -1,10 +1,11 @@
 //! The lines that a text of any version means, one after another.
-ghost use Rattle.std.specs.Prelude.{◌≡◌, ◌≢◌, ◌+◌, ◌<◌, ◌≤◌, ◌++◌, [], ℕ, List, IfNone, IfSome, IsFalse, IsTrue, MatchOption, None, Some, is_some, length, true};
+ghost use Rattle.std.specs.Prelude.{◌≡◌, ◌≢◌, ◌+◌, ◌<◌, ◌≤◌, ◌++◌, ◌⊎◌, ◌↔◌, [], ℕ, List, codes, IfNone, IfSome, IsFalse, IsTrue, MatchOption, None, Some, is_some, length, true};
 ghost use Rattle.std.specs.Bool.{then_some};
 ghost use Rattle.tx_base.specs.declared.steps.Step.{Step as TheStep};
 ghost use Rattle.tx_lines.specs.Lines.{step_text, FitsStep};
 ghost use Rattle.tx_lines.specs.Programs.{BeginsLabel};
 ghost use Rattle.tx_lines.specs.Schedule.{first_line, FitsStepOf};
+ghost use Rattle.tx_lines.specs.Walks.{debug_line};
 ghost use Rattle.tx_plain.specs.Lines.{plain_line};
 ghost use Rattle.tx_plain.specs.Meant.{meant_of};
 ghost use Rattle.tx_plain.specs.MeantLines.{left_of, line_of, IsNextLine, OwnsFrom, OwnsNext};
@@ -16,6 +17,7 @@ use crate::lines::split_line;
 use crate::plain::is_third;
 use crate::plain_lines::{line_meaning, stage_after};
 use crate::room::Room;
+use crate::spellings::is;
 use crate::stage::Stage;
 use crate::words::{from_word, has_word};
 use tx_base::Step;
@@ -235,7 +237,7 @@ impl<'a> OwnLine<'a> {
         ensures label { IfSome result (λ meaning. BeginsLabel (line_of self.entry)) }
         ensures other { IfNone result (BeginsLabel (line_of self.entry) → ⊥) }
     {
-        if !self.may_be_label() {
+        if !self.may_begin(b"label") {
             return None;
         }
         let meaning = self.meaning(room);
@@ -246,13 +248,23 @@ impl<'a> OwnLine<'a> {
         }
     }
 
-    /// Whether the line that it means may begin as a label, by the front of the line itself.
-    fn may_be_label(self) -> bool
-        ensures { BeginsLabel (line_of self.entry) → IsTrue result }
+    /// Whether the line that it means is the one before commands. One that begins with another word is
+    /// not translated.
+    pub fn is_debug(self, room: &mut Room) -> bool
+        ensures { IsTrue result ↔ (line_of self.entry ≡ debug_line) }
+    {
+        self.may_begin(b"debug") && is(self.meaning(room), b"debug")
+    }
+
+    /// Whether the line that it means may begin with that word, by the front of the line itself.
+    #[inline(always)] // it compares with a word that is known
+    fn may_begin(self, word: &[u8]) -> bool
+        requires { (word.now ≡ codes "label") ⊎ (word.now ≡ codes "debug") }
+        ensures { (rest : List ℕ) → line_of self.entry ≡ word.now ++ rest → IsTrue result }
     {
         match self.stage {
-            Some(_stage) => begins_so(b"label", from_word(self.bytes)),
-            None => begins_so(b"label", self.bytes),
+            Some(_stage) => begins_so(word, from_word(self.bytes)),
+            None => begins_so(word, self.bytes),
         }
     }
 }

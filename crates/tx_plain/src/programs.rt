@@ -6,10 +6,11 @@ ghost use Rattle.tx_lines.specs.Schedule.{lines_of, Adds};
 ghost use Rattle.tx_plain.specs.MeantLines.{left_of, line_of};
 ghost use Rattle.tx_plain.specs.MeantPrograms.{IsMeantProgram, MeansProgramFrom, MeansProgramOf};
 
+use crate::first_lines::header_in;
 use crate::meant::Meant;
 use crate::meant_lines::{MeantLines, OwnLine};
+use crate::plain::is_third;
 use crate::room::Room;
-use crate::third::third_header;
 use indexmap::IndexMap;
 use std::alloc::Global;
 use tx_base::NoMemory;
@@ -35,7 +36,9 @@ pub fn read_program<S: Source>(alloc: Global, source: &mut S) -> Result<Program,
 fn meant_program(alloc: Global, text: &[u8]) -> Result<Program, Fault>
     ensures { MeansProgramOf text.now result }
 {
-    if let Some(program) = third_program(alloc, text)? {
+    if is_third(text)
+        && let Some(program) = program_in(alloc, text)?
+    {
         return Ok(program);
     }
     let meant = Meant::by(alloc, text)?;
@@ -45,11 +48,11 @@ fn meant_program(alloc: Global, text: &[u8]) -> Result<Program, Fault>
     }
 }
 
-/// The program that a text of version 3 means. Nothing where it means none, or is of another version.
-fn third_program(alloc: Global, text: &[u8]) -> Result<Option<Program>, NoMemory>
+/// The program that a text means. Nothing where it means none.
+pub fn program_in(alloc: Global, text: &[u8]) -> Result<Option<Program>, NoMemory>
     ensures { IfOk result (λ found. IfSome found (IsMeantProgram text.now)) }
 {
-    let Some((header, left)) = third_header(alloc, TextKind::Program, text)? else {
+    let Some((header, left)) = header_in(alloc, TextKind::Program, text)? else {
         return Ok(None);
     };
     let Some((lines, labels)) = lines_in(alloc, header.version, left)? else {

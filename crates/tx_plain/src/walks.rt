@@ -3,15 +3,14 @@ ghost use Rattle.std.specs.Prelude.{◌≡◌, ◌∷◌, ◌++◌, IfOk, IfSome
 ghost use Rattle.tx_lines.specs.Schedule.{lines_of};
 ghost use Rattle.tx_lines.specs.Walks.{command_text, debug_line, AreCommands, FitsCommand};
 ghost use Rattle.tx_plain.specs.MeantLines.{left_of, line_of};
-ghost use Rattle.tx_plain.specs.MeantWalks.{MeansWalk, MeansWalkOf};
+ghost use Rattle.tx_plain.specs.MeantWalks.{MeansWalkOf};
 
 use crate::meant::Meant;
 use crate::meant_lines::{MeantLines, OwnLine};
+use crate::plain::is_third;
 use crate::room::Room;
-use crate::spellings::is;
-use crate::third::read_third;
+use crate::texts::{Text, read_text};
 use std::alloc::{AllocError, Global};
-use tx_base::NoMemory;
 use tx_lines::{Command, Fault, LINES, Version, Walk, read_command, read_walk as read_second};
 
 /// The schedule and the commands that a text means, or the fault of the text. A text of version 3 is
@@ -19,7 +18,9 @@ use tx_lines::{Command, Fault, LINES, Version, Walk, read_command, read_walk as 
 pub fn read_walk(alloc: Global, text: &[u8]) -> Result<Walk, Fault>
     ensures { MeansWalkOf text.now result }
 {
-    if let Some(walk) = third_walk(alloc, text)? {
+    if is_third(text)
+        && let Some(Text::Walk(walk)) = read_text(alloc, text)?
+    {
         return Ok(walk);
     }
     let meant = Meant::by(alloc, text)?;
@@ -29,34 +30,22 @@ pub fn read_walk(alloc: Global, text: &[u8]) -> Result<Walk, Fault>
     }
 }
 
-/// The schedule and the commands that a text of version 3 means. Nothing where it means none, or is of
-/// another version.
-fn third_walk(alloc: Global, text: &[u8]) -> Result<Option<Walk>, NoMemory>
-    ensures { IfOk result (λ found. IfSome found (MeansWalk text.now)) }
-{
-    let Some((schedule, left)) = read_third(alloc, text)? else {
-        return Ok(None);
-    };
-    let Some(left) = behind_debug(left) else {
-        return Ok(None);
-    };
-    match commands_in(alloc, schedule.header.version, left)? {
-        Some(commands) => Ok(Some(Walk { schedule, commands })),
-        None => Ok(None),
-    }
-}
-
-/// The lines behind the line before commands, where that is the first.
-fn behind_debug(lines: MeantLines<'_>) -> Option<MeantLines<'_>>
-    ensures { IfSome result (λ behind.
-        left_of lines.entry ≡ debug_line ++ 10 ∷ left_of behind) }
+/// The commands of that version that lines mean after the one before commands. Nothing where the first
+/// is not that one, one of the others means no command, or there are too many.
+pub fn commands_after(
+    alloc: Global,
+    version: Version,
+    lines: MeantLines<'_>,
+) -> Result<Option<Vec<Command>>, AllocError>
+    ensures { IfOk result (λ found. IfSome found (λ commands. AreCommands version commands.items
+        × (left_of lines.entry ≡ debug_line ++ 10 ∷ lines_of command_text commands.items))) }
 {
     let mut room = Room::new();
     let (line, behind) = lines.cut();
-    if line.is_ended && is(line.meaning(&mut room), b"debug") {
-        Some(behind)
+    if line.is_ended && line.is_debug(&mut room) {
+        commands_in(alloc, version, behind)
     } else {
-        None
+        Ok(None)
     }
 }
 

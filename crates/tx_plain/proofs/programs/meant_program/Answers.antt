@@ -7,7 +7,7 @@ use Rattle.tx_plain.proofs.programs.meant_program.Goals as goal
 pub returns-in-Ok : goal.returns-in-Ok
 returns-in-Ok c = (c.in-Ok.ensures.0, c.in-Ok.ensures.1, sym c.in_ok-meant.ensures.bytes ∙ sym c.as_bytes.ensures ∙ c.in-Ok.ensures.2)
 
-pub returns : goal.returns
-returns c =
+pub returns-2 : goal.returns-2
+returns-2 c =
     own_fault IsProgramFault c.args.text.now c.in_ok-meant.meant c.in-Err.fault c.own_fault.result c.in_ok-meant.ensures
     (subst (λ (text : List ℕ). FaultsBy (IsProgramFault text) c.in-Err.fault) c.as_bytes.ensures c.in-Err.ensures) c.own_fault.ensures

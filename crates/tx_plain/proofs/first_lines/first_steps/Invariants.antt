@@ -3,7 +3,7 @@ use Rattle.tx_lines.specs.Lines.{step_text}
 use Rattle.tx_lines.specs.Schedule.{AreSteps}
 use Rattle.tx_plain.specs.FirstLines.{IsBefore}
 use Rattle.tx_plain.specs.MeantLines.{left_of}
-use Rattle.tx_plain.proofs.third.first_steps.Given as goal
+use Rattle.tx_plain.proofs.first_lines.first_steps.Given as goal
 
 abbrev pub invariant-loop-line : goal.invariant-loop-line
 invariant-loop-line l = IsBefore step_text (AreSteps l.version) l.steps.items (left_of l.left) (left_of l.initial.lines)

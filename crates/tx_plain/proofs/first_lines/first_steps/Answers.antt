@@ -4,7 +4,7 @@ use Rattle.tx_lines.specs.Lines.{step_text}
 use Rattle.tx_lines.specs.Schedule.{AreSteps, FitsStepOf}
 use Rattle.tx_plain.proofs.FirstLines.{one_more}
 use Rattle.tx_plain.specs.MeantLines.{left_of, line_of}
-use Rattle.tx_plain.proofs.third.first_steps.Goals as goal
+use Rattle.tx_plain.proofs.first_lines.first_steps.Goals as goal
 
 pub loop-line-preserved : goal.loop-line-preserved
 loop-line-preserved c =

@@ -1,6 +1,6 @@
 use Rattle.std.proofs.Common.{ap, arith, length}
 use Rattle.tx_lines.proofs.ProgramParts.{few_lines}
-use Rattle.tx_plain.proofs.programs.third_program.Goals as goal
+use Rattle.tx_plain.proofs.programs.program_in.Goals as goal
 
 pub link-requires : goal.link-requires
 link-requires c =

@@ -1,4 +1,4 @@
-//! Reads the header that a text of version 3 means, and steps behind it, line by line.
+//! Reads the header that a text of any version means, and steps after it, line by line.
 ghost use Rattle.std.specs.Prelude.{◌≡◌, ◌<◌, ◌∷◌, ◌++◌, [], IfOk, IfSome, IsFalse, IsTrue, length, true};
 ghost use Rattle.tx_lines.specs.Lines.{header_text, step_text, FitsHeader};
 ghost use Rattle.tx_lines.specs.Schedule.{Adds, AreSteps, FitsStepOf, SpellsHeader};
@@ -7,7 +7,6 @@ ghost use Rattle.tx_plain.specs.Meant.{meant_of};
 ghost use Rattle.tx_plain.specs.MeantLines.{left_of, line_of};
 
 use crate::meant_lines::{MeantLines, OwnLine};
-use crate::plain::is_third;
 use crate::room::Room;
 use std::alloc::{AllocError, Global};
 use tx_base::{Call, NoMemory, Pid, Step};
@@ -16,26 +15,25 @@ use tx_lines::{Header, LINES, Schedule, TextKind, Version, first_header};
 /// How many bytes the line of a step has at least, with its end, as `1 map 0`.
 const STEP_BYTES: usize = 8;
 
-/// The schedule that the first lines of a text of version 3 mean, and the lines behind them: the header,
-/// and the steps up to the first line that means none, or that a schedule has no room for. Nothing where
-/// the text has no header of a schedule, or is of another version.
-pub fn read_third(
+/// The schedule that the first lines of a text mean, and the lines after them: the header, and the steps
+/// up to the first line that means none, or that a schedule has no room for. Nothing where the text has
+/// no header of a schedule.
+pub fn begun_schedule(
     alloc: Global,
     text: &[u8],
 ) -> Result<Option<(Schedule, MeantLines<'_>)>, NoMemory>
     ensures { IfOk result (λ found. IfSome found (λ r.
         BeginsWith r.0.header r.0.steps.items (left_of r.1) (meant_of text.now))) }
 {
-    let Some((header, lines)) = third_header(alloc, TextKind::Schedule, text)? else {
+    let Some((header, lines)) = header_in(alloc, TextKind::Schedule, text)? else {
         return Ok(None);
     };
     let (steps, left) = first_steps(alloc, header.version, lines)?;
     Ok(Some((Schedule { header, steps }, left)))
 }
 
-/// The header of that kind that a text of version 3 means, and the lines behind it. Nothing where it
-/// means none, or is of another version.
-pub fn third_header(
+/// The header of that kind that a text means, and the lines after it. Nothing where it means none.
+pub fn header_in(
     alloc: Global,
     kind: TextKind,
     text: &[u8],
@@ -43,9 +41,6 @@ pub fn third_header(
     ensures { IfOk result (λ found. IfSome found (λ r.
         SpellsHeader kind (meant_of text.now) r.0 (left_of r.1))) }
 {
-    if !is_third(text) {
-        return Ok(None);
-    }
     let (line, behind) = MeantLines::of(text).cut();
     match header_of(alloc, kind, line)? {
         Some(header) => Ok(Some((header, behind))),

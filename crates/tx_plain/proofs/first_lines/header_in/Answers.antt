@@ -2,7 +2,7 @@ use Rattle.std.proofs.Common.{List, ℕ, subst}
 use Rattle.tx_plain.proofs.FirstLines.{spells_header}
 use Rattle.tx_plain.specs.Meant.{meant_of}
 use Rattle.tx_plain.specs.MeantLines.{left_of, IsNextLine}
-use Rattle.tx_plain.proofs.third.third_header.Goals as goal
+use Rattle.tx_plain.proofs.first_lines.header_in.Goals as goal
 
 pub returns-in-Some : goal.returns-in-Some
 returns-in-Some c =

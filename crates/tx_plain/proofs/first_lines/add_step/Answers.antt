@@ -2,7 +2,7 @@ use Rattle.std.proofs.Common.{rules, true, ◌≡◌, ◌<◌, ◌++◌, ◌∷�
 use Rattle.std.proofs.Math.Seq.{set-append_seam}
 use Rattle.tx_base.specs.declared.steps.Call.TheVariants.{Getpid}
 use Rattle.tx_base.specs.declared.steps.Step.TheVariants.{Call}
-use Rattle.tx_plain.proofs.third.add_step.Goals as goal
+use Rattle.tx_plain.proofs.first_lines.add_step.Goals as goal
 
 pub returns-then-read_step_into-clause-added : goal.returns-then-read_step_into-clause-added
 returns-then-read_step_into-clause-added c = λ is.
