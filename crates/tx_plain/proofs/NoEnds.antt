@@ -1,15 +1,16 @@
 -- What a line means stands in one line.
-use Rattle.std.proofs.Common.{◌≡◌, ◌≢◌, ℕ, zero, suc, ◌+◌, ◌/◌, ◌%◌, ◌<◌, ◌≤◌, ◌^◌, Bool, true, false, cond, nat_eq, List, [], ◌∷◌, ◌++◌, codes, get_or, map, Option, Some, None, if◌then◌else◌, inl, inr, arith}
+use Rattle.std.proofs.Common.{◌≡◌, ◌≢◌, ℕ, zero, suc, ◌+◌, ◌/◌, ◌%◌, ◌<◌, ◌≤◌, ◌^◌, Bool, true, false, cond, nat_eq, nat_lt, List, [], ◌∷◌, ◌++◌, codes, get_or, map, Option, Some, None, if◌then◌else◌, inl, inr, arith}
 use Rattle.std.proofs.lemmas.Bool.Decides.{eqb_tells}
 use Rattle.std.specs.Fmt.{decimal}
 use Rattle.std.specs.List.{filter}
 use Rattle.std.specs.Str.{bytes_eq}
+use Rattle.std.specs.Char.{to_ascii_lowercase}
 use Rattle.hex.specs.Hex.{encode_lower, encode_with, lower_digits}
 use Rattle.tx_lines.specs.Lists.{list_text, more_text}
 use Rattle.tx_lines.specs.Sets.{members}
 use Rattle.tx_lines.specs.declared.read.header.TextKind.TheVariants.{Schedule, Program}
 use Rattle.tx_model.specs.SignalSets.{is_in_set, realtime_signals, standard_signals}
-use Rattle.tx_plain.specs.ByteWords.{digits_of, hex_or, is_hex, is_upper_digit, lower_digit, lower_or, plain_bytes}
+use Rattle.tx_plain.specs.ByteWords.{digits_of, hex_or, is_hex, lower_or, plain_bytes}
 use Rattle.tx_plain.specs.Lines.{plain_arguments, plain_call, plain_line, plain_of_words, plain_others, plain_version, short_or, spaced}
 use Rattle.tx_plain.specs.OwnLines.{ended_lines, own_lines, with_byte, without_return}
 use Rattle.tx_plain.specs.Plain.{bare}
@@ -172,14 +173,15 @@ hex_or_none : (word : List ℕ) (bytes : Option (List ℕ)) → HasNoEnd word �
 hex_or_none word None none = none
 hex_or_none word (Some bytes) none = hex_none bytes
 
-lower_none : (byte : ℕ) → byte ≢ 10 → lower_digit byte ≢ 10
-lower_none byte other = by (is_upper_digit byte)
+lower_none : (byte : ℕ) → byte ≢ 10 → to_ascii_lowercase byte ≢ 10
+lower_none byte other = by (nat_lt byte 65) (nat_lt byte 91)
   where
-    by : (test : Bool) → (if test then byte + 32 else byte) ≢ 10
-    by true = λ same. omega (arith, same)
-    by false = other
+    by : (low upper : Bool) → cond low byte (cond upper (byte + 32) byte) ≢ 10
+    by true upper = other
+    by false true = λ same. omega (arith, same)
+    by false false = other
 
-map_none : (bytes : List ℕ) → HasNoEnd bytes → HasNoEnd (map lower_digit bytes)
+map_none : (bytes : List ℕ) → HasNoEnd bytes → HasNoEnd (map to_ascii_lowercase bytes)
 map_none [] none = tt
 map_none (byte ∷ bytes) none = (lower_none byte none.0, map_none bytes none.1)
 
@@ -193,7 +195,7 @@ bytes_none [] none = tt
 bytes_none (byte ∷ bytes) none =
     let digits = digits_of (byte ∷ bytes) in
     either (nat_eq byte 34) (hex_or (byte ∷ bytes) (meant bytes)) (lower_or (byte ∷ bytes) digits) (hex_or_none (byte ∷ bytes) (meant bytes) none)
-    (either (is_hex digits) (map lower_digit digits) (byte ∷ bytes) (map_none digits (drop_none (byte ∷ bytes) none)) none)
+    (either (is_hex digits) (map to_ascii_lowercase digits) (byte ∷ bytes) (map_none digits (drop_none (byte ∷ bytes) none)) none)
 
 -- what they mean
 plain_none : (role : Role) (word : List ℕ) → HasNoEnd word → HasNoEnd (plain_word role word)

@@ -1,21 +1,22 @@
 -- The spelling of bytes in version 2 means these bytes.
 use Rattle.std.proofs.Common.{◌≡◌, ◌≢◌, ℕ, suc, zero, ◌*◌, ◌/◌, ◌%◌, ◌<◌, ◌≤◌, Bool, true, false, not, ◌&&◌, nat_eq, List, [], ◌∷◌, codes, length, map, get_or, refl, ap, ◌∙◌, arith, eq-eqb, eqb-true}
 use Rattle.std.proofs.lemmas.Bool.{both_ways, le-leb}
+use Rattle.std.specs.Char.{is_ascii_hexdigit, to_ascii_lowercase}
 use Rattle.std.specs.List.{list_all}
 use Rattle.hex.specs.Hex.{encode_lower, encode_with, lower_digits, IsBytes}
-use Rattle.tx_plain.specs.ByteWords.{digits_of, is_hex, is_hex_digit, lower_digit, lower_or, plain_bytes}
+use Rattle.tx_plain.specs.ByteWords.{digits_of, is_hex, lower_or, plain_bytes}
 use Rattle.tx_plain.proofs.Unnamed.{differ}
 use Rattle.tx_plain.proofs.Tests.{and_parts}
 
 -- a digit that stays, and begins neither a string nor `0x`
 pub record IsLowerDigit (byte : ℕ) : Type 0 where
-  pub digit : is_hex_digit byte ≡ true
-  pub lower : lower_digit byte ≡ byte
+  pub digit : is_ascii_hexdigit byte ≡ true
+  pub lower : to_ascii_lowercase byte ≡ byte
   pub quote : nat_eq byte 34 ≡ false
   pub mark : nat_eq byte 120 ≡ false
 
 abbrev is_lower : ℕ → Bool
-is_lower byte = is_hex_digit byte && (nat_eq (lower_digit byte) byte && (not (nat_eq byte 34) && not (nat_eq byte 120)))
+is_lower byte = is_ascii_hexdigit byte && (nat_eq (to_ascii_lowercase byte) byte && (not (nat_eq byte 34) && not (nat_eq byte 120)))
 
 not_parts : (a : Bool) → not a ≡ true → a ≡ false
 not_parts true h = absurd (both_ways false refl h)
@@ -23,12 +24,12 @@ not_parts false h = refl
 
 told : (byte : ℕ) → is_lower byte ≡ true → IsLowerDigit byte
 told byte h =
-    let a = and_parts (is_hex_digit byte) (nat_eq (lower_digit byte) byte && (not (nat_eq byte 34) && not (nat_eq byte 120))) h in
-    let b = and_parts (nat_eq (lower_digit byte) byte) (not (nat_eq byte 34) && not (nat_eq byte 120)) a.1 in
+    let a = and_parts (is_ascii_hexdigit byte) (nat_eq (to_ascii_lowercase byte) byte && (not (nat_eq byte 34) && not (nat_eq byte 120))) h in
+    let b = and_parts (nat_eq (to_ascii_lowercase byte) byte) (not (nat_eq byte 34) && not (nat_eq byte 120)) a.1 in
     let d = and_parts (not (nat_eq byte 34)) (not (nat_eq byte 120)) b.1 in
     record {
       digit = a.0;
-      lower = eqb-true (lower_digit byte) byte b.0;
+      lower = eqb-true (to_ascii_lowercase byte) byte b.0;
       quote = not_parts (nat_eq byte 34) d.0;
       mark = not_parts (nat_eq byte 120) d.1;
     }
@@ -44,8 +45,8 @@ digit_at k small = among lower_digits k refl small
 -- the digits of bytes
 record AreDigits (word : List ℕ) (count : ℕ) : Type 0 where
   pub size : length word ≡ 2 * count
-  pub digits : list_all is_hex_digit word ≡ true
-  pub lower : map lower_digit word ≡ word
+  pub digits : list_all is_ascii_hexdigit word ≡ true
+  pub lower : map to_ascii_lowercase word ≡ word
 
 hex_digits : (bytes : List ℕ) → IsBytes bytes → AreDigits (encode_lower bytes) (length bytes)
 unfolding encode_with

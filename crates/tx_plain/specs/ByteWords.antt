@@ -1,25 +1,14 @@
 -- The words for bytes: a string, `0x` and hex digits, or hex digits.
-use Rattle.std.specs.Prelude.{ℕ, ◌+◌, ◌%◌, Bool, ◌&&◌, ◌||◌, List, [], ◌∷◌, drop, length, map, take, nat_eq, nat_le, codes, Option, Some, None, if◌then◌else◌}
+use Rattle.std.specs.Prelude.{ℕ, ◌%◌, Bool, ◌&&◌, List, [], ◌∷◌, drop, length, map, take, nat_eq, nat_le, codes, Option, Some, None, if◌then◌else◌}
+use Rattle.std.specs.Char.{is_ascii_hexdigit, to_ascii_lowercase}
 use Rattle.std.specs.List.{list_all}
 use Rattle.std.specs.Str.{bytes_eq}
 use Rattle.hex.specs.Hex.{encode_lower}
 use Rattle.tx_plain.specs.Strings.{meant}
 
--- whether a byte is one of `A` to `F`
-abbrev pub is_upper_digit : ℕ → Bool
-is_upper_digit byte = nat_le 65 byte && nat_le byte 70
-
--- whether a byte is a hex digit of either case
-abbrev pub is_hex_digit : ℕ → Bool
-is_hex_digit byte = (nat_le 48 byte && nat_le byte 57) || (is_upper_digit byte || (nat_le 97 byte && nat_le byte 102))
-
--- the same digit in lower case
-abbrev pub lower_digit : ℕ → ℕ
-lower_digit byte = if is_upper_digit byte then byte + 32 else byte
-
 -- whether a word is hex digits for 1 to 64 bytes
 abbrev pub is_hex : List ℕ → Bool
-is_hex digits = nat_le 1 (length digits) && (nat_le (length digits) 128 && (nat_eq (length digits % 2) 0 && list_all is_hex_digit digits))
+is_hex digits = nat_le 1 (length digits) && (nat_le (length digits) 128 && (nat_eq (length digits % 2) 0 && list_all is_ascii_hexdigit digits))
 
 -- the digits of a word, without `0x` where it begins so
 abbrev pub digits_of : List ℕ → List ℕ
@@ -27,7 +16,7 @@ digits_of word = if bytes_eq (take 2 word) (codes "0x") then drop 2 word else wo
 
 -- digits in lower case, where they are digits, in place of the word
 abbrev pub lower_or : List ℕ → List ℕ → List ℕ
-lower_or word digits = if is_hex digits then map lower_digit digits else word
+lower_or word digits = if is_hex digits then map to_ascii_lowercase digits else word
 
 -- bytes in hex digits, where there are some, in place of the word
 abbrev pub hex_or : List ℕ → Option (List ℕ) → List ℕ

@@ -1,8 +1,9 @@
 //! Puts words for bytes as version 2 spells them.
 ghost use Rattle.std.specs.Prelude.{◌≡◌, ◌++◌, ◌<◌, map, slice_index, OnErr, OnOk};
+ghost use Rattle.std.specs.Char.{is_ascii_hexdigit, to_ascii_lowercase};
 ghost use Rattle.std.specs.List.{list_all};
 ghost use Rattle.hex.specs.Hex.{encode_lower, lower_digits};
-ghost use Rattle.tx_plain.specs.ByteWords.{digits_of, is_hex, is_hex_digit, lower_digit, lower_or, plain_bytes};
+ghost use Rattle.tx_plain.specs.ByteWords.{digits_of, is_hex, lower_or, plain_bytes};
 ghost use Rattle.tx_plain.specs.Rooms.{IsOver};
 
 use crate::room::{Full, Room, put, put_byte};
@@ -95,37 +96,21 @@ fn is_hex(digits: &[u8]) -> bool
 
 /// Whether all bytes are hex digits of either case.
 fn are_hex_digits(bytes: &[u8]) -> bool
-    ensures { result ≡ list_all is_hex_digit bytes.now }
+    ensures { result ≡ list_all is_ascii_hexdigit bytes.now }
 {
-    bytes.iter().all(|byte| is_hex_digit(*byte))
-}
-
-/// Whether a byte is a hex digit of either case.
-fn is_hex_digit(byte: u8) -> bool
-    ensures { result ≡ is_hex_digit byte }
-{
-    matches!(byte, b'0'..=b'9' | b'A'..=b'F' | b'a'..=b'f')
-}
-
-/// The same digit in lower case.
-fn lower_digit(byte: u8) -> u8
-    ensures { result ≡ lower_digit byte }
-{
-    if byte >= b'A' && byte <= b'F' {
-        byte + 32
-    } else {
-        byte
-    }
+    bytes.iter().all(|byte| byte.is_ascii_hexdigit())
 }
 
 /// Appends digits in lower case.
 fn put_lower(room: &mut Room, digits: &[u8]) -> Result<(), Full>
-    ensures put { OnOk result (room.new.items ≡ room.old.items ++ map lower_digit digits.now) }
-    ensures full { OnErr result (IsOver (room.old.items ++ map lower_digit digits.now)) }
+    ensures put { OnOk result
+        (room.new.items ≡ room.old.items ++ map to_ascii_lowercase digits.now) }
+    ensures full { OnErr result
+        (IsOver (room.old.items ++ map to_ascii_lowercase digits.now)) }
 {
     let mut left = digits;
     while let Some((digit, rest)) = left.split_first() {
-        put_byte(room, lower_digit(*digit))?;
+        put_byte(room, digit.to_ascii_lowercase())?;
         left = rest;
     }
     Ok(())

@@ -250,6 +250,7 @@ impl<'a> OwnLine<'a> {
 
     /// Whether the line that it means is the one before commands. One that begins with another word is
     /// not translated.
+    #[inline(always)] // a call of its own costs each line that is looked at 50 instructions
     pub fn is_debug(self, room: &mut Room) -> bool
         ensures { IsTrue result ↔ (line_of self.entry ≡ debug_line) }
     {
