@@ -8,10 +8,9 @@ use Rattle.tx_journal.specs.Sessions.{SameJournal, SessionState, position_of}
 use Rattle.tx_journal.specs.declared.entry.Entry.{Entry}
 use Rattle.tx_journal.specs.declared.pieces.Piece.{Piece}
 use Rattle.tx_shell.proofs.Listed.{oldest_first}
-use Rattle.tx_shell.specs.Changes.{change_line, AllShow, FindsLast, FindsNext, IsSame, MeetsBack, MeetsNext, TellsStep}
+use Rattle.tx_shell.specs.Changes.{change_line, shown_in, AllShow, FindsLast, FindsNext, IsSame, MeetsBack, MeetsNext, TellsStep}
 use Rattle.tx_shell.specs.Differences.{differing}
 use Rattle.tx_shell.specs.Places.{place_of}
-use Rattle.tx_shell.specs.Shown.{shown_in}
 use Rattle.tx_shell.specs.declared.questions.changes.Change.{Change}
 
 same_as : (shown : ℕ → List ℕ) (lines : List ℕ) (from to : ℕ) → AllShow shown lines from to → from ≤ to → IsSame shown from to

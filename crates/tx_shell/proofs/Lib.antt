@@ -3,7 +3,6 @@ pub mod Behind
 pub mod Chained
 pub mod Consoles
 pub mod CutLines
-pub mod Explained
 pub mod FirstWords
 pub mod Found
 pub mod Gathered
@@ -14,10 +13,10 @@ pub mod Numbered
 pub mod OwnSteps
 pub mod Owned
 pub mod Replayed
+pub mod Results
 pub mod Shown
 pub mod Sought
 pub mod Spelled
 pub mod Talked
 pub mod TwoNumbers
-pub mod Without
 pub mod Differed

@@ -8,7 +8,7 @@ use Rattle.tx_journal.specs.declared.pieces.Piece.{Piece}
 use Rattle.tx_live.specs.Content.{view_of}
 use Rattle.tx_model.specs.View.{view}
 use Rattle.tx_shell.proofs.Listed.{history_to}
-use Rattle.tx_shell.specs.Shown.{shown_in}
+use Rattle.tx_shell.specs.Changes.{shown_in}
 
 -- what is shown at the position is the piece of the machine there
 pub shown_there : (k : SessionState) (piece : Piece) (text : List ℕ) → view_of k.machine ≡ view (start_of k) (history_of (made_of k)) → text ≡ piece_text piece (view_of k.machine) → text ≡ shown_in k piece (position_of k)

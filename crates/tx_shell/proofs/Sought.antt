@@ -3,8 +3,7 @@ use Rattle.std.proofs.Common.{◌≡◌, inl, inr, ℕ, ◌+◌, ◌-◌, ◌≤
 use Rattle.std.proofs.lemmas.Bool.Decides.{leb_tells}
 use Rattle.tx_journal.specs.Sessions.{SameJournal, SessionState, position_of}
 use Rattle.tx_journal.specs.declared.pieces.Piece.{Piece}
-use Rattle.tx_shell.specs.Changes.{AllShow, MeetsBack, MeetsNext, ShowsOthers}
-use Rattle.tx_shell.specs.Shown.{shown_in}
+use Rattle.tx_shell.specs.Changes.{shown_in, AllShow, MeetsBack, MeetsNext, ShowsOthers}
 
 same_journal : (new old first : SessionState) → SameJournal new old → SameJournal old first → SameJournal new first
 same_journal new old first a b = record { entries = a.entries ∙ b.entries; boot = record { width = a.boot.width ∙ b.boot.width; count = a.boot.count ∙ b.boot.count } }

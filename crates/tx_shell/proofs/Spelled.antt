@@ -14,17 +14,15 @@ use Rattle.tx_lines.specs.declared.read.header.Version.TheVariants as versions
 use Rattle.tx_model.specs.Schedules.{history_with}
 use Rattle.tx_model.specs.State.{State}
 use Rattle.tx_script.specs.Debug.{first_steps}
-use Rattle.tx_shell.specs.Answers.{AnswersAsk, AnswersAskIn, AnswersAskJson, AnswersStep, AnswersWords}
+use Rattle.tx_shell.specs.Answers.{left_by, AnswersAskIn, AnswersStep, AnswersWords}
+use Rattle.tx_shell.specs.Asks.{lets_go}
 use Rattle.tx_shell.specs.Events.{End, Failure, Line, Talks, Text}
-use Rattle.tx_shell.specs.Origins.{Origin, version_of}
+use Rattle.tx_shell.specs.Origins.{version_of, grammar_of, Origin}
 use Rattle.tx_shell.specs.Places.{Place}
 use Rattle.tx_shell.specs.Spelled.{AllFit, IsSpelled, SpellsSchedule, StaysSpelled}
 use Rattle.tx_shell.specs.Standings.{Answers, AnswersMeant, first_standing, Opens, Standing}
-use Rattle.tx_shell.specs.Versions.{grammar_of}
 use Rattle.tx_shell.specs.declared.lines.asks.Ask.{Ask}
-use Rattle.tx_shell.specs.declared.lines.asks.Ask.TheVariants as asks
 use Rattle.tx_shell.specs.declared.answers.forms.Form.{Form}
-use Rattle.tx_shell.specs.declared.answers.forms.Form.TheVariants as forms
 use Rattle.tx_shell.specs.declared.lines.versions.TextVersion.{TextVersion}
 
 -- what holds of each of a list holds of each of the list turned round
@@ -54,61 +52,22 @@ module _ (o : Origin) (p q : Place) (text : List ℕ) (all : AllFit o.version p.
   same_place : q ≡ p → AllFit o.version q.history
   same_place same = subst (λ (r : Place). AllFit o.version r.history) (sym same) all
 
-  same_history : q.history ≡ p.history → AllFit o.version q.history
-  same_history same = subst (AllFit o.version) (sym same) all
-
   stepped : (form : Form) (step : Step) → FitsStepOf (grammar_of o.version) step → (start : State) → AnswersStep form start p step text q → AllFit o.version q.history
   stepped form step fits start (inl makes) = subst (AllFit o.version) (sym makes.recorded) (with_step o.version p.history step _ fits all)
   stepped form step fits start (inr leaves) = same_place leaves.stays
 
-  asked : (refused : Option Step) (ask : Ask) → AnswersAsk o p refused ask text q → AllFit o.version q.history
-  asked refused (asks.Walk command) walks = same_history walks.history
-  asked refused asks.GotoEnd walks = same_history walks.history
-  asked refused asks.Steps answers = same_place answers.1
-  asked refused (asks.StepsFrom first) answers = same_place answers.1
-  asked refused (asks.StepsBetween first last) answers = same_place answers.1
-  asked refused asks.Text prints = same_place prints.stays
-  asked refused (asks.Try step) answers = same_place answers.1
-  asked refused (asks.Why step) answers = same_place answers.1
-  asked refused (asks.Without starter) answers = same_place answers.1
-  asked refused asks.WhyRefused answers = same_place answers.1
-  asked refused asks.Owns answers = same_place answers.1
-  asked refused (asks.OwnsOf starter) answers = same_place answers.1
-  asked refused (asks.When piece) tells = same_history tells.finds.history
-  asked refused (asks.Next piece) tells = same_history tells.finds.history
-  asked refused asks.Cut cuts = subst (AllFit o.version) (sym cuts.history) (first_fit o.version p.at p.history all)
-  asked refused asks.Help answers = same_place answers.1
-  asked refused (asks.HelpOn word) answers = same_place answers.1
+  left : (goes : Bool) (r : Place) → AllFit o.version r.history → AllFit o.version (left_by goes r).history
+  left true r fit = first_fit o.version r.at r.history fit
+  left false r fit = fit
 
--- what JSON answers stands for a text
-json_told : (o : Origin) (p q : Place) (refused : Option Step) (ask : Ask) (text : List ℕ) → AnswersAskJson o p refused ask text q → (told : List ℕ) × AnswersAsk o p refused ask told q
-json_told o p q refused (asks.When piece) text (found, finds, says) = (says.told, record { change = found; finds = finds; tells = says.tells })
-json_told o p q refused (asks.Next piece) text (found, finds, says) = (says.told, record { change = found; finds = finds; tells = says.tells })
-json_told o p q refused (asks.Walk command) text json = (json.told, json.answers)
-json_told o p q refused asks.GotoEnd text json = (json.told, json.answers)
-json_told o p q refused asks.Steps text json = (json.told, json.answers)
-json_told o p q refused (asks.StepsFrom first) text json = (json.told, json.answers)
-json_told o p q refused (asks.StepsBetween first last) text json = (json.told, json.answers)
-json_told o p q refused asks.Text text json = (json.told, json.answers)
-json_told o p q refused (asks.Try step) text json = (json.told, json.answers)
-json_told o p q refused (asks.Without starter) text json = (json.told, json.answers)
-json_told o p q refused (asks.Why step) text json = (json.told, json.answers)
-json_told o p q refused asks.WhyRefused text json = (json.told, json.answers)
-json_told o p q refused asks.Owns text json = (json.told, json.answers)
-json_told o p q refused (asks.OwnsOf starter) text json = (json.told, json.answers)
-json_told o p q refused asks.Cut text json = (json.told, json.answers)
-json_told o p q refused asks.Help text json = (json.told, json.answers)
-json_told o p q refused (asks.HelpOn word) text json = (json.told, json.answers)
-
-module _ (o : Origin) (p q : Place) (text : List ℕ) (all : AllFit o.version p.history) where
-  asked_in : (form : Form) (refused : Option Step) (ask : Ask) → AnswersAskIn form o p refused ask text q → AllFit o.version q.history
-  asked_in forms.Text refused ask answers = asked o p q text all refused ask answers
-  asked_in forms.Json refused ask json = let told = json_told o p q refused ask text json in asked o p q told.0 all refused ask told.1
+  asked : (form : Form) (refused : Option Step) (ask : Ask) → AnswersAskIn form o p refused ask text q → AllFit o.version q.history
+  asked form refused ask answers =
+      subst (λ (r : Place). AllFit o.version r.history) (sym answers.after) (left (lets_go ask) answers.there (subst (AllFit o.version) (sym answers.kept) all))
 
   worded : (form : Form) (before after : Option Step) (line words : List ℕ) → AnswersWords form o p before line words text q after → AllFit o.version q.history
-  worded form before after line words (inl (step, is, answers, kept)) = stepped o p q text all form step (record { fits = is.fits; of = is.of }) _ answers
-  worded form before after line words (inr (inl (ask, is, answers, kept))) = asked_in form before ask answers
-  worded form before after line words (inr (inr (neither, kept))) = same_place o p q text all neither.stays
+  worded form before after line words (inl (step, is, answers, kept)) = stepped form step (record { fits = is.fits; of = is.of }) _ answers
+  worded form before after line words (inr (inl (ask, is, answers, kept))) = asked form before ask answers
+  worded form before after line words (inr (inr (neither, kept))) = same_place neither.stays
 
 -- a header of the first two versions fits the version that its lines are read by
 header_fits : (third : Bool) (version : Version) (count : ℕ) → (0 < count) × (count ≤ most_of version) → (0 < count) × (count ≤ most_of (grammar_of (version_of third version)))

@@ -1,41 +1,32 @@
 -- What a line is answered, and where the session stands then.
-use Rattle.std.specs.Prelude.{◌≡◌, ◌⊎◌, ◌<◌, ℕ, ◌&&◌, List, [], ◌∷◌, ◌++◌, Option, None, Some, IsTrue, codes, false, if◌then◌else◌, length, nat_eq, true}
-use Rattle.json.specs.Token.{Token}
+use Rattle.std.specs.Prelude.{◌≡◌, ◌≢◌, ◌⊎◌, ◌<◌, ℕ, ◌&&◌, Bool, List, ◌∷◌, Option, None, Some, IsTrue, if◌then◌else◌, length, nat_eq, option_map, string_bytes}
 use Rattle.tx_base.specs.declared.steps.Accepted.{Accepted}
+use Rattle.tx_base.specs.declared.steps.Reply.{Reply}
 use Rattle.tx_base.specs.declared.steps.Step.{Step}
-use Rattle.tx_base.specs.declared.steps.Step.TheVariants.{KernelAbort}
 use Rattle.tx_explain.specs.Topics.{is_page}
 use Rattle.tx_journal.specs.Trials.{view_with}
-use Rattle.tx_json.specs.Answers.{lines_answer, lines_with, position_answer, state_answer, trial_answer}
-use Rattle.tx_json.specs.Line.{IsLineOf}
 use Rattle.tx_lines.specs.Lines.{FitsStep, IsOf, step_text}
 use Rattle.tx_lines.specs.Schedule.{IsNoStep}
 use Rattle.tx_lines.specs.declared.read.command.Command.{Command}
 use Rattle.tx_lines.specs.declared.read.command.Command.TheVariants as commands
 use Rattle.tx_model.specs.Answer.{answer}
-use Rattle.tx_model.specs.Membership.{is_live}
-use Rattle.tx_model.specs.Schedules.{history_of, history_with}
+use Rattle.tx_model.specs.Schedules.{history_with}
 use Rattle.tx_model.specs.State.{State}
-use Rattle.tx_model.specs.View.{View, view}
-use Rattle.tx_script.specs.Debug.{command_answer, first_steps, position_after, position_text}
-use Rattle.tx_shell.specs.Asks.{ask_text, FitsAsk, IsNoAsk}
-use Rattle.tx_shell.specs.Changes.{shown_at, FindsLast, FindsNext, TellsFound, TellsLast, TellsNext}
-use Rattle.tx_shell.specs.Differences.{views_differing}
-use Rattle.tx_shell.specs.Forms.{SaysAhead, SaysReply, TellsIn}
-use Rattle.tx_shell.specs.Helps.{HelpsOn}
-use Rattle.tx_shell.specs.Journals.{schedule_so_far, steps_listed, steps_made}
-use Rattle.tx_shell.specs.Members.{owner_member, owners_member, steps_member, transaction_member, why_members, IsChangeMember}
-use Rattle.tx_shell.specs.Origins.{Origin, start_in}
-use Rattle.tx_shell.specs.Owners.{or_no_transaction, owner_line, owner_lines}
+use Rattle.tx_model.specs.View.{view}
+use Rattle.tx_script.specs.Debug.{command_answer, first_steps, position_after}
+use Rattle.tx_shell.specs.Asks.{ask_text, lets_go, FitsAsk, IsNoAsk}
+use Rattle.tx_shell.specs.Changes.{shown_at, FindsLast, FindsNext}
+use Rattle.tx_shell.specs.Differences.{differing_without, views_differing}
+use Rattle.tx_shell.specs.Forms.{SaysAhead, SaysAnswer, SaysReply, TellsIn}
+use Rattle.tx_shell.specs.Reasons.{HelpsOn}
+use Rattle.tx_shell.specs.Origins.{start_in, grammar_of, Origin}
 use Rattle.tx_shell.specs.Places.{Place}
-use Rattle.tx_shell.specs.Reasons.{TellsRefused, TellsWhy}
-use Rattle.tx_shell.specs.Versions.{grammar_of}
+use Rattle.tx_shell.specs.declared.answers.answer.Answer.{Answer}
+use Rattle.tx_shell.specs.declared.answers.answer.Answer.TheVariants as answers
+use Rattle.tx_shell.specs.declared.answers.forms.Form.{Form}
 use Rattle.tx_shell.specs.declared.lines.asks.Ask.{Ask}
 use Rattle.tx_shell.specs.declared.lines.asks.Ask.TheVariants as asks
-use Rattle.tx_shell.specs.declared.answers.forms.Form.{Form}
-use Rattle.tx_shell.specs.declared.answers.forms.Form.TheVariants.{Text, Json}
 use Rattle.tx_shell.specs.declared.questions.changes.Change.{Change}
-use Rattle.tx_text.specs.Replies.{named_reply_text}
 
 -- at the end a step is made: its reply is told, and it is recorded where it was accepted
 pub record MakesStep (form : Form) (start : State) (p : Place) (step : Step) (text : List ℕ) (q : Place) : Type 0 where
@@ -53,57 +44,70 @@ pub record LeavesStep (form : Form) (p : Place) (text : List ℕ) (q : Place) : 
 abbrev pub AnswersStep : Form → State → Place → Step → List ℕ → Place → Type 0
 AnswersStep form start p step text q = MakesStep form start p step text q ⊎ LeavesStep form p text q
 
+-- the debugger answers those lines; the state is asked for, and no lines
+abbrev pub IsWalked : List ℕ → Command → Answer → Type 0
+IsWalked lines command answers.State = command ≡ commands.State
+IsWalked lines command (answers.Walked text) = (command ≢ commands.State) × (string_bytes text ≡ lines)
+IsWalked lines command other = ⊥
+
 -- a command of the debugger answers as in a text for it, and leads to the same position
-pub record Walks (start : State) (p : Place) (command : Command) (text : List ℕ) (q : Place) : Type 0 where
-  pub told : text ≡ command_answer start p.history p.at command
-  pub history : q.history ≡ p.history
+pub record Walks (start : State) (p : Place) (command : Command) (found : Answer) (q : Place) : Type 0 where
+  pub told : IsWalked (command_answer start p.history p.at command) command found
   pub at : q.at ≡ position_after p.history p.at command
 
--- the text of a schedule is printed whose steps lead, from the start, to the history up to the position
-pub record PrintsSchedule (o : Origin) (p : Place) (text : List ℕ) (q : Place) : Type 0 where
-  pub told : text ≡ schedule_so_far o p
-  pub leads : history_of (start_in o) [] (steps_made p) ≡ first_steps p.at p.history
-  pub stays : q ≡ p
+-- a step would get that reply, and the state after it would differ by those lines
+abbrev pub IsTrial : Reply → List ℕ → Answer → Type 0
+IsTrial reply lines (answers.Trial replied differences) = (replied ≡ reply) × (string_bytes differences ≡ lines)
+IsTrial reply lines other = ⊥
 
--- the reply is told that a step would get after a history, and how the state after it would differ
-abbrev pub tried_text : State → List Accepted → Step → List ℕ
-tried_text start h step = named_reply_text (answer (view start h) step) ++ 10 ∷ views_differing (view start h) (view_with start h step)
+-- the state would differ by those lines without the transaction of s
+abbrev pub IsWithout : ℕ → Option (List ℕ) → Answer → Type 0
+IsWithout s lines (answers.Without starter differences) = (starter ≡ s) × (option_map string_bytes differences ≡ lines)
+IsWithout s lines other = ⊥
 
--- it is told how the state would differ that an abort of the live transaction of process s by the kernel would leave at the position, or that there is none
-pub record TellsWithout (start : State) (p : Place) (s : ℕ) (text : List ℕ) : Type 0 where
-  pub open_one : is_live (view start (first_steps p.at p.history)).table s ≡ true →
-      text ≡ views_differing (view start (first_steps p.at p.history)) (view_with start (first_steps p.at p.history) (KernelAbort (record { 0 = s })))
-  pub none : is_live (view start (first_steps p.at p.history)).table s ≡ false → text ≡ codes "no transaction\n"
+-- a page of help that says that
+abbrev pub IsPage : (List ℕ → Type 0) → Answer → Type 0
+IsPage says (answers.Page page) = says page.now
+IsPage says other = ⊥
 
--- the view of the steps that are made
-abbrev pub view_at : Origin → Place → View
-view_at o p = view (start_in o) (first_steps p.at p.history)
+module _ (start : State) (h : List Accepted) where
+  -- why the step would be refused that was refused last, or that none was
+  abbrev pub last_why : Option Step → Answer
+  last_why None = answers.NothingRefused
+  last_why (Some step) = answers.Why step (answer (view start h) step)
 
--- the steps after the position are gone
-pub record Cuts (p : Place) (text : List ℕ) (q : Place) : Type 0 where
-  pub told : text ≡ position_text p.at
-  pub history : q.history ≡ first_steps p.at p.history
-  pub at : q.at ≡ p.at
+  -- the answer to what is asked for after the history h, where that step was refused last, and the place to which that leads. A cut lets go of no step yet
+  abbrev pub IsAnswer : Place → Option Step → Ask → Answer → Place → Type 0
+  IsAnswer p refused (asks.Walk command) found q = Walks start p command found q
+  IsAnswer p refused asks.GotoEnd found q = Walks start p (commands.Goto (length p.history)) found q
+  IsAnswer p refused asks.Steps found q = (found ≡ answers.Steps 1 (length p.history)) × (q ≡ p)
+  IsAnswer p refused (asks.StepsFrom first) found q = (found ≡ answers.Steps first (length p.history)) × (q ≡ p)
+  IsAnswer p refused (asks.StepsBetween first last) found q = (found ≡ answers.Steps first last) × (q ≡ p)
+  IsAnswer p refused asks.Text found q = (found ≡ answers.Schedule) × (q ≡ p)
+  IsAnswer p refused (asks.Try step) found q = IsTrial (answer (view start h) step) (views_differing (view start h) (view_with start h step)) found × (q ≡ p)
+  IsAnswer p refused (asks.When piece) found q = (change : Option Change) × (found ≡ answers.Change change) × FindsLast (shown_at start p.history piece) p change q
+  IsAnswer p refused (asks.Next piece) found q = (change : Option Change) × (found ≡ answers.Change change) × FindsNext (shown_at start p.history piece) p change q
+  IsAnswer p refused (asks.Without starter) found q = IsWithout starter (differing_without start h starter) found × (q ≡ p)
+  IsAnswer p refused (asks.Why step) found q = (found ≡ answers.Why step (answer (view start h) step)) × (q ≡ p)
+  IsAnswer p refused asks.WhyRefused found q = (found ≡ last_why refused) × (q ≡ p)
+  IsAnswer p refused asks.Owns found q = (found ≡ answers.Owners) × (q ≡ p)
+  IsAnswer p refused (asks.OwnsOf starter) found q = (found ≡ answers.OwnersOf starter) × (q ≡ p)
+  IsAnswer p refused asks.Cut found q = (found ≡ answers.Position) × (q ≡ p)
+  IsAnswer p refused asks.Help found q = IsPage (λ page. IsTrue (is_page page)) found × (q ≡ p)
+  IsAnswer p refused (asks.HelpOn word) found q = IsPage (HelpsOn word.now) found × (q ≡ p)
 
--- what is asked for is done and answered, as text, where that step was refused last
-abbrev pub AnswersAsk : Origin → Place → Option Step → Ask → List ℕ → Place → Type 0
-AnswersAsk o p refused (asks.Walk command) text q = Walks (start_in o) p command text q
-AnswersAsk o p refused asks.GotoEnd text q = Walks (start_in o) p (commands.Goto (length p.history)) text q
-AnswersAsk o p refused asks.Steps text q = (text ≡ steps_listed p 1 (length p.history)) × (q ≡ p)
-AnswersAsk o p refused (asks.StepsFrom first) text q = (text ≡ steps_listed p first (length p.history)) × (q ≡ p)
-AnswersAsk o p refused (asks.StepsBetween first last) text q = (text ≡ steps_listed p first last) × (q ≡ p)
-AnswersAsk o p refused asks.Text text q = PrintsSchedule o p text q
-AnswersAsk o p refused (asks.Try step) text q = (text ≡ tried_text (start_in o) (first_steps p.at p.history) step) × (q ≡ p)
-AnswersAsk o p refused (asks.Without starter) text q = TellsWithout (start_in o) p starter text × (q ≡ p)
-AnswersAsk o p refused (asks.When piece) text q = TellsLast (shown_at (start_in o) p.history piece) p text q
-AnswersAsk o p refused (asks.Next piece) text q = TellsNext (shown_at (start_in o) p.history piece) p text q
-AnswersAsk o p refused (asks.Why step) text q = TellsWhy (start_in o) (first_steps p.at p.history) step text × (q ≡ p)
-AnswersAsk o p refused asks.WhyRefused text q = TellsRefused (start_in o) (first_steps p.at p.history) refused text × (q ≡ p)
-AnswersAsk o p refused asks.Owns text q = (text ≡ or_no_transaction (owner_lines (view_at o p))) × (q ≡ p)
-AnswersAsk o p refused (asks.OwnsOf starter) text q = (text ≡ or_no_transaction (owner_line (view_at o p) starter)) × (q ≡ p)
-AnswersAsk o p refused asks.Cut text q = Cuts p text q
-AnswersAsk o p refused asks.Help text q = IsTrue (is_page text) × (q ≡ p)
-AnswersAsk o p refused (asks.HelpOn word) text q = HelpsOn word.now text × (q ≡ p)
+-- a cut lets go of the steps after the position
+abbrev pub left_by : Bool → Place → Place
+left_by goes p = if goes then record { history = first_steps p.at p.history; at = p.at } else p
+
+-- what is asked for is done, and its answer is printed where it led, before steps are let go of
+pub record AnswersAskIn (form : Form) (o : Origin) (p : Place) (refused : Option Step) (ask : Ask) (text : List ℕ) (q : Place) : Type 0 where
+  pub found : Answer
+  pub there : Place
+  pub is : IsAnswer (start_in o) (first_steps p.at p.history) p refused ask found there
+  pub kept : there.history ≡ p.history
+  pub says : SaysAnswer form o (first_steps there.at there.history) there found text
+  pub after : q ≡ left_by (lets_go ask) there
 
 -- what a line means is a step
 pub record IsStepLine (o : Origin) (words : List ℕ) (step : Step) : Type 0 where
@@ -116,55 +120,6 @@ pub record IsAskLine (o : Origin) (words : List ℕ) (ask : Ask) : Type 0 where
   pub no_step : IsNoStep (grammar_of o.version) words
   pub fits : FitsAsk (grammar_of o.version) ask
   pub spelled : words ≡ ask_text ask
-
--- what JSON has of the step that was refused last: nothing where none was
-abbrev pub last_members : State → List Accepted → Option Step → List Token
-last_members S h None = []
-last_members S h (Some step) = why_members S h step
-
--- what JSON has of what is asked for, where the lines of the text and the position are known: of a state the state, of a step that is tried its reply and
--- the lines that differ, of a cut the position; of all else the lines, and behind them the steps that are listed, what is reserved, the transaction without
--- which the state would differ, or why a step is refused
-abbrev pub ask_tokens : Origin → Place → Option Step → Ask → List ℕ → ℕ → List Token
-ask_tokens o p refused (asks.Walk commands.State) told at = state_answer at (view_at o p)
-ask_tokens o p refused (asks.Try step) told at =
-    trial_answer at (answer (view_at o p) step) (views_differing (view_at o p) (view_with (start_in o) (first_steps p.at p.history) step))
-ask_tokens o p refused asks.Steps told at = lines_with at told (steps_member p 1 (length p.history))
-ask_tokens o p refused (asks.StepsFrom first) told at = lines_with at told (steps_member p first (length p.history))
-ask_tokens o p refused (asks.StepsBetween first last) told at = lines_with at told (steps_member p first last)
-ask_tokens o p refused (asks.Without starter) told at = lines_with at told (transaction_member (view_at o p) starter)
-ask_tokens o p refused (asks.Why step) told at = lines_with at told (why_members (start_in o) (first_steps p.at p.history) step)
-ask_tokens o p refused asks.WhyRefused told at = lines_with at told (last_members (start_in o) (first_steps p.at p.history) refused)
-ask_tokens o p refused asks.Owns told at = lines_with at told (owners_member (view_at o p))
-ask_tokens o p refused (asks.OwnsOf starter) told at = lines_with at told (owner_member (view_at o p) starter)
-ask_tokens o p refused asks.Cut told at = position_answer at
-ask_tokens o p refused ask told at = lines_answer at told
-
--- what is asked for is done, and answered by JSON in place of the text that is known
-pub record AnswersByTokens (o : Origin) (p : Place) (refused : Option Step) (ask : Ask) (text : List ℕ) (q : Place) : Type 0 where
-  pub told : List ℕ
-  pub answers : AnswersAsk o p refused ask told q
-  pub says : IsLineOf (ask_tokens o p refused ask told q.at) text
-
--- of a change that was found, or not, JSON has the lines of its text and the step
-pub record SaysFound (history : List Accepted) (at : ℕ) (found : Option Change) (text : List ℕ) : Type 0 where
-  pub told : List ℕ
-  pub tells : TellsFound history at found told
-  pub members : List Token
-  pub has : IsChangeMember history at found members
-  pub says : IsLineOf (lines_with at told members) text
-
-abbrev pub AnswersAskJson : Origin → Place → Option Step → Ask → List ℕ → Place → Type 0
-AnswersAskJson o p refused (asks.When piece) text q =
-    (found : Option Change) × FindsLast (shown_at (start_in o) p.history piece) p found q × SaysFound q.history q.at found text
-AnswersAskJson o p refused (asks.Next piece) text q =
-    (found : Option Change) × FindsNext (shown_at (start_in o) p.history piece) p found q × SaysFound q.history q.at found text
-AnswersAskJson o p refused ask text q = AnswersByTokens o p refused ask text q
-
--- in either form
-abbrev pub AnswersAskIn : Form → Origin → Place → Option Step → Ask → List ℕ → Place → Type 0
-AnswersAskIn Text o p refused ask text q = AnswersAsk o p refused ask text q
-AnswersAskIn Json o p refused ask text q = AnswersAskJson o p refused ask text q
 
 -- it is neither: what is wrong with the line is told, and nothing changes
 pub record AnswersNeither (form : Form) (o : Origin) (p : Place) (line words text : List ℕ) (q : Place) : Type 0 where

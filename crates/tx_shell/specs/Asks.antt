@@ -1,9 +1,8 @@
 -- What a talk is asked for by lines that are no steps, and how that is spelled.
-use Rattle.std.specs.Prelude.{◌≢◌, ℕ, ◌<◌, ◌^◌, List, ◌∷◌, ◌++◌, codes}
+use Rattle.std.specs.Prelude.{◌≢◌, ℕ, ◌<◌, ◌^◌, Bool, List, ◌∷◌, ◌++◌, codes, false, true}
 use Rattle.std.specs.Fmt.{decimal}
 use Rattle.tx_lines.specs.Lines.{step_text, FitsStep, IsOf}
 use Rattle.tx_lines.specs.Walks.{command_text, FitsCommand}
-use Rattle.tx_lines.specs.declared.read.command.Command.TheVariants as commands
 use Rattle.tx_lines.specs.declared.read.header.Version.{Version}
 use Rattle.tx_shell.specs.Pieces.{piece_name, FitsPiece}
 use Rattle.tx_shell.specs.declared.lines.asks.Ask.{Ask}
@@ -57,12 +56,7 @@ IsOfWords asks.Cut = Unit {0}
 IsOfWords asks.Help = Unit {0}
 IsOfWords ask = ⊥
 
--- JSON has the lines of its text alone
-abbrev pub IsToldByLines : Ask → Type 0
-IsToldByLines (asks.Walk commands.State) = ⊥
-IsToldByLines (asks.Walk command) = Unit {0}
-IsToldByLines asks.GotoEnd = Unit {0}
-IsToldByLines asks.Text = Unit {0}
-IsToldByLines asks.Help = Unit {0}
-IsToldByLines (asks.HelpOn word) = Unit {0}
-IsToldByLines ask = ⊥
+-- steps are to be let go of
+abbrev pub lets_go : Ask → Bool
+lets_go asks.Cut = true
+lets_go ask = false

@@ -3,7 +3,9 @@ use Rattle.std.specs.Prelude.{◌≡◌, ◌≢◌, ◌≤◌, ◌+◌, ◌-◌,
 use Rattle.std.specs.Fmt.{decimal}
 use Rattle.tx_base.specs.declared.steps.Accepted.{Accepted}
 use Rattle.tx_base.specs.declared.steps.Step.{Step}
+use Rattle.tx_journal.specs.Entries.{history_of}
 use Rattle.tx_journal.specs.Pieces.{piece_text}
+use Rattle.tx_journal.specs.Sessions.{SessionState, start_of}
 use Rattle.tx_journal.specs.declared.pieces.Piece.{Piece}
 use Rattle.tx_lines.specs.Lines.{step_text}
 use Rattle.tx_model.specs.State.{State}
@@ -15,6 +17,10 @@ use Rattle.tx_shell.specs.declared.questions.changes.Change.{Change}
 -- the lines of a piece at each position
 abbrev pub shown_at : State → List Accepted → Piece → ℕ → List ℕ
 shown_at start history piece at = piece_text piece (view_at start history at)
+
+-- those of a session
+abbrev pub shown_in : SessionState → Piece → ℕ → List ℕ
+shown_in k piece = shown_at (start_of k) (history_of k.entries) piece
 
 -- they are the same at all positions from one to another
 abbrev pub IsSame : (ℕ → List ℕ) → ℕ → ℕ → Type 0
@@ -88,13 +94,3 @@ pub record TellsStep (history : List Accepted) (number : ℕ) (before after text
 abbrev pub TellsFound : List Accepted → ℕ → Option Change → List ℕ → Type 0
 TellsFound history at found text =
     MatchOption found (text ≡ no_change_text at) (λ change. TellsStep history at (string_bytes change.before) (string_bytes change.after) text)
-
-pub record TellsLast (shown : ℕ → List ℕ) (p : Place) (text : List ℕ) (q : Place) : Type 0 where
-  pub change : Option Change
-  pub finds : FindsLast shown p change q
-  pub tells : TellsFound q.history q.at change text
-
-pub record TellsNext (shown : ℕ → List ℕ) (p : Place) (text : List ℕ) (q : Place) : Type 0 where
-  pub change : Option Change
-  pub finds : FindsNext shown p change q
-  pub tells : TellsFound q.history q.at change text

@@ -1,11 +1,16 @@
 -- How two texts differ, and two states.
-use Rattle.std.specs.Prelude.{ℕ, Bool, List, [], ◌∷◌, ◌++◌, bytes_eq, codes, if◌then◌else◌}
+use Rattle.std.specs.Prelude.{ℕ, Bool, List, [], ◌∷◌, ◌++◌, Option, None, Some, bytes_eq, codes, if◌then◌else◌}
 use Rattle.std.specs.List.{list_any}
 use Rattle.std.specs.Str.Lines.{lines}
+use Rattle.tx_base.specs.declared.steps.Accepted.{Accepted}
+use Rattle.tx_base.specs.declared.steps.Step.TheVariants.{KernelAbort}
 use Rattle.tx_journal.specs.Pieces.{piece_text}
 use Rattle.tx_journal.specs.Rows.{state_pieces}
 use Rattle.tx_journal.specs.declared.pieces.Piece.{Piece}
-use Rattle.tx_model.specs.View.{View}
+use Rattle.tx_journal.specs.Trials.{view_with}
+use Rattle.tx_model.specs.Membership.{is_live}
+use Rattle.tx_model.specs.State.{State}
+use Rattle.tx_model.specs.View.{View, view}
 use Rattle.tx_text.specs.Each.{each_text}
 
 -- whether one of the lines is that one
@@ -37,6 +42,11 @@ piece_differing before after piece = differing (piece_text piece before) (piece_
 -- how two states differ: the lines of each process, description, pipe and live transaction, in the order of the state's text
 abbrev pub views_differing : View → View → List ℕ
 views_differing before after = each_text (piece_differing before after) (state_pieces before.table.width)
+
+-- how a state would differ that an abort of the live transaction of process s by the kernel would leave, where there is one
+abbrev pub differing_without : State → List Accepted → ℕ → Option (List ℕ)
+differing_without start h s =
+    if is_live (view start h).table s then Some (views_differing (view start h) (view_with start h (KernelAbort (record { 0 = s })))) else None
 
 -- how texts differ from others, one pair after another
 abbrev pub all_differing : List (List ℕ) → List (List ℕ) → List ℕ

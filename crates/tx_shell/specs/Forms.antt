@@ -1,14 +1,34 @@
--- Answers that are the same in each form.
-use Rattle.std.specs.Prelude.{◌≡◌, ℕ, List, [], ◌∷◌, ◌++◌, codes}
+-- How each form prints answers.
+use Rattle.std.specs.Prelude.{◌≡◌, ℕ, List, [], ◌∷◌, ◌++◌, ◌≤◌, IfSome, Option, None, Some, codes, option_map, string_bytes}
+use Rattle.json.specs.Token.{Token}
+use Rattle.tx_base.specs.declared.steps.Accepted.{Accepted}
 use Rattle.tx_base.specs.declared.steps.Reply.{Reply}
 use Rattle.tx_check.specs.Sessions.{IsSessionTold}
-use Rattle.tx_json.specs.Answers.{empty_answer, error_answer, position_answer, step_answer}
+use Rattle.tx_json.specs.Answers.{empty_answer, error_answer, position_answer, step_answer, lines_with, state_answer, trial_answer}
 use Rattle.tx_json.specs.Line.{IsLineOf}
-use Rattle.tx_script.specs.Debug.{position_text}
-use Rattle.tx_shell.specs.Told.{TellsOf}
-use Rattle.tx_shell.specs.declared.answers.forms.Form.{Form}
+use Rattle.tx_model.specs.Schedules.{history_of}
+use Rattle.tx_model.specs.State.{State}
+use Rattle.tx_model.specs.View.{view}
+use Rattle.tx_script.specs.Debug.{position_text, first_steps}
+use Rattle.tx_shell.specs.Changes.{TellsFound}
+use Rattle.tx_shell.specs.Journals.{schedule_so_far, steps_listed, steps_made}
+use Rattle.tx_shell.specs.Members.{change_member, owner_member, owners_member, steps_member, transaction_member, why_members}
+use Rattle.tx_shell.specs.Origins.{Origin, start_in}
+use Rattle.tx_shell.specs.Owners.{or_no_transaction, owner_line, owner_lines}
+use Rattle.tx_shell.specs.Places.{Place}
+use Rattle.tx_shell.specs.Reasons.{TellsWhy}
+use Rattle.tx_shell.specs.declared.answers.answer.Answer.TheVariants as answers
+use Rattle.tx_shell.specs.declared.answers.answer.Answer.{Answer}
 use Rattle.tx_shell.specs.declared.answers.forms.Form.TheVariants.{Text, Json}
+use Rattle.tx_shell.specs.declared.answers.forms.Form.{Form}
 use Rattle.tx_text.specs.Replies.{named_reply_text}
+use Rattle.tx_text.specs.State.{state_text}
+
+-- what is wrong with the line, between a mark and the line's end
+pub record TellsOf (line text : List ℕ) : Type 0 where
+  pub told : List ℕ
+  pub wrong : IsSessionTold line told
+  pub says : text ≡ codes "? " ++ (told ++ 10 ∷ [])
 
 -- the answer to a line without a word
 abbrev pub SaysNothing : Form → List ℕ → Type 0
@@ -34,3 +54,62 @@ SaysAhead Json text = IsLineOf (error_answer (codes "steps are ahead; cut lets g
 abbrev pub TellsIn : Form → List ℕ → List ℕ → Type 0
 TellsIn Text line text = TellsOf line text
 TellsIn Json line text = (told : List ℕ) × IsSessionTold line told × IsLineOf (error_answer told) text
+
+-- a step that was found to change a piece stands directly before the position
+abbrev pub IsPlaced : ℕ → Answer → Type 0
+IsPlaced at (answers.Change found) = IfSome found (λ change. 1 ≤ at)
+IsPlaced at answer = Unit {0}
+
+-- the text of a schedule whose steps lead, from the start, to the history up to the position
+pub record PrintsSchedule (o : Origin) (p : Place) (text : List ℕ) : Type 0 where
+  pub told : text ≡ schedule_so_far o p
+  pub leads : history_of (start_in o) [] (steps_made p) ≡ first_steps p.at p.history
+
+-- the lines by which a state would differ without a transaction, or that there is none
+abbrev pub without_text : Option (List ℕ) → List ℕ
+without_text None = codes "no transaction\n"
+without_text (Some lines) = lines
+
+-- an answer as text, at a place up to which the steps of the history h are made
+abbrev pub TellsAnswer : Origin → List Accepted → Place → Answer → List ℕ → Type 0
+TellsAnswer o h p (answers.Walked lines) text = text ≡ string_bytes lines
+TellsAnswer o h p answers.State text = text ≡ state_text (view (start_in o) h)
+TellsAnswer o h p answers.Position text = text ≡ position_text p.at
+TellsAnswer o h p (answers.Steps first last) text = text ≡ steps_listed p first last
+TellsAnswer o h p answers.Schedule text = PrintsSchedule o p text
+TellsAnswer o h p (answers.Trial reply differences) text = text ≡ named_reply_text reply ++ 10 ∷ string_bytes differences
+TellsAnswer o h p (answers.Without starter differences) text = text ≡ without_text (option_map string_bytes differences)
+TellsAnswer o h p (answers.Change found) text = TellsFound p.history p.at found text
+TellsAnswer o h p (answers.Why step reply) text = TellsWhy (start_in o) h step reply text
+TellsAnswer o h p answers.NothingRefused text = text ≡ codes "nothing was refused\n"
+TellsAnswer o h p answers.Owners text = text ≡ or_no_transaction (owner_lines (view (start_in o) h))
+TellsAnswer o h p (answers.OwnersOf starter) text = text ≡ or_no_transaction (owner_line (view (start_in o) h) starter)
+TellsAnswer o h p (answers.Page page) text = text ≡ page.now
+
+-- what JSON has of an answer after the lines of its text
+abbrev pub answer_members : State → List Accepted → Place → Answer → List Token
+answer_members start h p (answers.Steps first last) = steps_member p first last
+answer_members start h p (answers.Without starter differences) = transaction_member starter differences
+answer_members start h p (answers.Change found) = change_member p found
+answer_members start h p (answers.Why step reply) = why_members start h step reply
+answer_members start h p answers.Owners = owners_member (view start h)
+answer_members start h p (answers.OwnersOf starter) = owner_member (view start h) starter
+answer_members start h p answer = []
+
+-- the position, those lines, and that
+pub record SaysLines (o : Origin) (h : List Accepted) (p : Place) (answer : Answer) (text : List ℕ) : Type 0 where
+  pub told : List ℕ
+  pub tells : TellsAnswer o h p answer told
+  pub says : IsLineOf (lines_with p.at told (answer_members (start_in o) h p answer)) text
+
+-- an answer as JSON: of a state the state, of a trial the reply and the lines that differ, of a cut the position, and of all else the lines of its text
+abbrev pub SaysJson : Origin → List Accepted → Place → Answer → List ℕ → Type 0
+SaysJson o h p answers.State text = IsLineOf (state_answer p.at (view (start_in o) h)) text
+SaysJson o h p answers.Position text = IsLineOf (position_answer p.at) text
+SaysJson o h p (answers.Trial reply differences) text = IsLineOf (trial_answer p.at reply (string_bytes differences)) text
+SaysJson o h p answer text = SaysLines o h p answer text
+
+-- an answer in a form
+abbrev pub SaysAnswer : Form → Origin → List Accepted → Place → Answer → List ℕ → Type 0
+SaysAnswer Text o h p answer text = TellsAnswer o h p answer text
+SaysAnswer Json o h p answer text = SaysJson o h p answer text

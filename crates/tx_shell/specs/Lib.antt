@@ -6,7 +6,6 @@ pub mod Cuts
 pub mod Differences
 pub mod Events
 pub mod Forms
-pub mod Helps
 pub mod Holders
 pub mod Journals
 pub mod Kinds
@@ -18,9 +17,6 @@ pub mod Pieces
 pub mod Places
 pub mod Reasons
 pub mod Refused
-pub mod Shown
 pub mod Signals
 pub mod Spelled
 pub mod Standings
-pub mod Told
-pub mod Versions

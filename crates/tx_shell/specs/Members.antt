@@ -1,7 +1,8 @@
 -- What JSON has of what is asked for, beside the lines of its text.
-use Rattle.std.specs.Prelude.{◌≡◌, ℕ, ◌+◌, ◌-◌, ◌&&◌, Bool, List, [], ◌∷◌, ◌++◌, MatchOption, Option, Some, None, codes, nat_le, reverse, slice_get, if◌then◌else◌}
+use Rattle.std.specs.Prelude.{ℕ, ◌+◌, ◌-◌, ◌&&◌, Bool, List, [], ◌∷◌, ◌++◌, Option, Some, None, codes, nat_le, reverse, slice_get, if◌then◌else◌}
 use Rattle.json.specs.Token.{Token}
 use Rattle.tx_base.specs.declared.steps.Accepted.{Accepted}
+use Rattle.tx_base.specs.declared.steps.Reply.{Reply}
 use Rattle.tx_base.specs.declared.steps.Step.{Step}
 use Rattle.tx_journal.specs.Since.{Numbered}
 use Rattle.tx_json.specs.Answers.{entry_answer}
@@ -11,7 +12,6 @@ use Rattle.tx_json.specs.Lists.{count_item}
 use Rattle.tx_json.specs.Members.{begin_object, count_member, end_object, list_member, null_member, object_key, word_member}
 use Rattle.tx_json.specs.Replies.{reply_members}
 use Rattle.tx_lines.specs.Lines.{step_text}
-use Rattle.tx_model.specs.Answer.{answer}
 use Rattle.tx_model.specs.Membership.{is_live}
 use Rattle.tx_model.specs.State.{State}
 use Rattle.tx_model.specs.View.{View, view}
@@ -63,9 +63,10 @@ module _ (V : View) where
   abbrev pub owner_member : ℕ → List Token
   owner_member s = list_member (codes "owners") (owner_item s)
 
-  -- the starter of a transaction, where one is live
-  abbrev pub transaction_member : ℕ → List Token
-  transaction_member s = if is_live V.table s then count_member (codes "transaction") s else null_member (codes "transaction")
+-- the starter of a transaction, where a state would differ without it
+abbrev pub transaction_member : {A : Type 0} → ℕ → Option A → List Token
+transaction_member s None = null_member (codes "transaction")
+transaction_member s (Some differences) = count_member (codes "transaction") s
 
 -- since which step, where one is found
 abbrev pub since_members : Option Numbered → List Token
@@ -83,17 +84,19 @@ blockers_members [] = []
 blockers_members (first ∷ others) = list_member (codes "blockers") (each_tokens blocked_tokens (first ∷ others))
 
 -- what a step would be answered after a history, what is in its way, and who could end its wait
-abbrev pub why_members : State → List Accepted → Step → List Token
-why_members S h step =
-    let reply = answer (view S h) step in
-    reply_members reply ++ (blockers_members (blocked_by S h step reply) ++ holders_members (awaited_by (view S h) step reply))
+abbrev pub why_members : State → List Accepted → Step → Reply → List Token
+why_members S h step reply = reply_members reply ++ (blockers_members (blocked_by S h step reply) ++ holders_members (awaited_by (view S h) step reply))
 
 -- the step of that number
-pub record IsStepMember (history : List Accepted) (number : ℕ) (members : List Token) : Type 0 where
-  pub entry : Accepted
-  pub made : slice_get (reverse history) (number - 1) ≡ Some entry
-  pub says : members ≡ object_key (codes "change") ++ step_tokens number entry
+abbrev pub made_member : ℕ → Option Accepted → List Token
+made_member number None = null_member (codes "change")
+made_member number (Some entry) = object_key (codes "change") ++ step_tokens number entry
 
--- the step directly before the position, where it was found to change a piece
-abbrev pub IsChangeMember : List Accepted → ℕ → Option Change → List Token → Type 0
-IsChangeMember history at found members = MatchOption found (members ≡ null_member (codes "change")) (λ change. IsStepMember history at members)
+-- the step directly before the position
+abbrev pub last_member : Place → List Token
+last_member p = made_member p.at (slice_get (reverse p.history) (p.at - 1))
+
+-- it, where it was found to change a piece
+abbrev pub change_member : Place → Option Change → List Token
+change_member p None = null_member (codes "change")
+change_member p (Some change) = last_member p

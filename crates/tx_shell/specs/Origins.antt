@@ -10,10 +10,15 @@ use Rattle.tx_lines.specs.declared.read.header.Version.TheVariants as versions
 use Rattle.tx_model.specs.State.{State, boot_state}
 use Rattle.tx_plain.specs.Meant.{meant_of}
 use Rattle.tx_plain.specs.Plain.{is_third}
-use Rattle.tx_shell.specs.Versions.{grammar_of}
 use Rattle.tx_shell.specs.declared.lines.openings.Opening.{Opening}
 use Rattle.tx_shell.specs.declared.lines.versions.TextVersion.{TextVersion}
 use Rattle.tx_shell.specs.declared.lines.versions.TextVersion.TheVariants.{One, Two, Three}
+
+-- the version whose grammar a line is read by, once it is known what it means
+abbrev pub grammar_of : TextVersion → Version
+grammar_of One = versions.One
+grammar_of Two = versions.Two
+grammar_of Three = versions.Two
 
 -- of which version the lines are, how many processes there may be, and how many there were at the start
 pub record Origin : Type 0 where

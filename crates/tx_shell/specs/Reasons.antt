@@ -1,6 +1,7 @@
 -- Why a step would be refused, as it is told.
-use Rattle.std.specs.Prelude.{◌≡◌, ℕ, ℤ, List, [], ◌∷◌, ◌++◌, Option, Some, None, MatchOption, codes, map, option_map, if◌then◌else◌}
+use Rattle.std.specs.Prelude.{◌≡◌, ℕ, ℤ, List, [], ◌∷◌, ◌++◌, Option, Some, None, MatchOption, codes, map, option_map, if◌then◌else◌, IfSome, IsTrue}
 use Rattle.std.specs.Fmt.{decimal, signed_decimal}
+use Rattle.std.specs.Str.{IsUtf8}
 use Rattle.tx_base.specs.declared.steps.Accepted.{Accepted}
 use Rattle.tx_base.specs.declared.steps.Refusal.{Refusal}
 use Rattle.tx_base.specs.declared.steps.Refusal.TheVariants.{Busy, Wait}
@@ -10,14 +11,13 @@ use Rattle.tx_base.specs.declared.steps.Step.{Step}
 use Rattle.tx_base.specs.declared.steps.Step.TheVariants as steps
 use Rattle.tx_base.specs.declared.steps.Call.TheVariants as calls
 use Rattle.tx_explain.specs.Calls.{refusal_word}
+use Rattle.tx_explain.specs.Topics.{asked, is_page, opens}
 use Rattle.tx_json.specs.declared.holders.Holder.{Holder}
 use Rattle.tx_journal.specs.Since.{Numbered}
 use Rattle.tx_lines.specs.Lines.{step_text}
-use Rattle.tx_model.specs.Answer.{answer}
 use Rattle.tx_model.specs.State.{ReadSide, Side, State, WriteSide}
 use Rattle.tx_model.specs.View.{view}
 use Rattle.tx_shell.specs.Blockers.{blocked, blocked_by, blocked_of, names_one, Blocked}
-use Rattle.tx_shell.specs.Helps.{HelpsOn}
 use Rattle.tx_shell.specs.Holders.{awaited_by, holders_line, side_holders}
 use Rattle.tx_shell.specs.Kinds.{limit_of, word_of}
 use Rattle.tx_shell.specs.Signals.{signal_lines}
@@ -26,6 +26,12 @@ use Rattle.tx_shell.specs.declared.questions.kinds.Kind.TheVariants.{Pipes}
 use Rattle.tx_shell.specs.declared.questions.reasons.Reason.{Reason}
 use Rattle.tx_text.specs.Each.{each_text, upto}
 use Rattle.tx_text.specs.Replies.{named_reply_text}
+
+-- of a word that is explained: a page that begins with it. Of another one: that it is none, and where the words are
+pub record HelpsOn (word text : List ℕ) : Type 0 where
+  pub page : IsTrue (is_page text)
+  pub opens : IsUtf8 word → IfSome (asked word) (λ name. IsTrue (opens name text))
+  pub unknown : asked word ≡ None → text ≡ codes "? not explained; help lists the commands, txos explain all other words\n"
 
 -- since which step
 abbrev pub touch_text : Numbered → List ℕ
@@ -119,11 +125,11 @@ module _ (S : State) (h : List Accepted) (step : Step) where
     pub told : behind ≡ answered_text reply ++ reason
     pub why : TellsReason reply reason
 
-  -- the step, and after it what it would be answered after the history, and why it would be refused
-  pub record TellsWhy (text : List ℕ) : Type 0 where
+  -- the step, and after it that it would get this reply, and why it would be refused
+  pub record TellsWhy (reply : Reply) (text : List ℕ) : Type 0 where
     pub behind : List ℕ
     pub told : text ≡ step_text step ++ behind
-    pub reply : TellsReply (answer (view S h) step) behind
+    pub replied : TellsReply reply behind
 
 -- what there is to tell of a step that would get this reply: what is in its way, and who could end its wait
 pub record IsReason (S : State) (h : List Accepted) (step : Step) (reply : Reply) (reason : Reason) : Type 0 where
@@ -134,8 +140,3 @@ pub record IsReason (S : State) (h : List Accepted) (step : Step) (reply : Reply
 abbrev pub open_by : Side → Option (List Holder) → List ℕ
 open_by side None = []
 open_by side (Some holders) = holders_line side holders
-
--- of the step that was refused last, or that none was
-abbrev pub TellsRefused : State → List Accepted → Option Step → List ℕ → Type 0
-TellsRefused S h None text = text ≡ codes "nothing was refused\n"
-TellsRefused S h (Some step) text = TellsWhy S h step text

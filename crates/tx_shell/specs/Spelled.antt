@@ -5,9 +5,8 @@ use Rattle.tx_lines.specs.Lines.{FitsHeader}
 use Rattle.tx_lines.specs.Schedule.{FitsStepOf, IsSchedule}
 use Rattle.tx_shell.specs.Events.{Event, Talks}
 use Rattle.tx_shell.specs.Journals.{steps_made}
-use Rattle.tx_shell.specs.Origins.{header_in}
+use Rattle.tx_shell.specs.Origins.{header_in, grammar_of}
 use Rattle.tx_shell.specs.Standings.{Standing}
-use Rattle.tx_shell.specs.Versions.{grammar_of}
 use Rattle.tx_shell.specs.declared.lines.versions.TextVersion.{TextVersion}
 
 -- a text of that version can hold each step of a history

@@ -4,10 +4,9 @@ ghost use Rattle.tx_journal.specs.Sessions.{position_of};
 ghost use Rattle.tx_lines.specs.Lines.{step_text, FitsHeader, FitsStep, IsOf};
 ghost use Rattle.tx_shell.specs.Forms.{SaysPosition};
 ghost use Rattle.tx_shell.specs.Meanings.{meant_line};
-ghost use Rattle.tx_shell.specs.Origins.{origin_said, SaysOrigin};
+ghost use Rattle.tx_shell.specs.Origins.{origin_said, grammar_of, SaysOrigin};
 ghost use Rattle.tx_shell.specs.Standings.{begun_by, first_standing, quit_line, standing_of, Answers, AnswersMeant};
 ghost use Rattle.tx_shell.specs.Standings.{IsNoHeader, IsQuit, Stops, StopsMeant};
-ghost use Rattle.tx_shell.specs.Versions.{grammar_of};
 
 use crate::answers::Interpreter;
 use crate::answers::forms::Form;

@@ -1,12 +1,20 @@
 //! In which form a talk is answered, and answers that are the same in each.
 ghost use Rattle.std.specs.Prelude.{IfOk, OnOk, string_bytes};
-ghost use Rattle.tx_shell.specs.Forms.{SaysAhead, SaysNothing, SaysPosition, SaysReply};
+ghost use Rattle.tx_journal.specs.Entries.{history_of};
+ghost use Rattle.tx_journal.specs.Sessions.{made_of, position_of};
+ghost use Rattle.tx_shell.specs.Forms.{IsPlaced, SaysAhead, SaysAnswer, SaysNothing, SaysPosition, SaysReply};
+ghost use Rattle.tx_shell.specs.Places.{origin_of, place_of};
 
+use crate::answers::answer::Answer;
+use crate::answers::as_json::answer_line;
+use crate::answers::as_text::answer_text;
 use crate::answers::helps::text_as;
 use crate::answers::journals::position_line;
 use crate::answers::steps::put_reply_line;
+use crate::lines::versions::TextVersion;
 use std::alloc::Global;
 use tx_base::{NoMemory, Reply};
+use tx_journal::Session;
 
 /// In which form a talk is answered.
 #[derive(Clone, Copy)]
@@ -42,6 +50,27 @@ impl Form {
         match self {
             Form::Text => position_line(alloc, position),
             Form::Json => tx_json::position_answer(alloc, position),
+        }
+    }
+
+    /// An answer, printed with the session at the position to which it led.
+    ///
+    /// NoMemory where a growth is refused.
+    pub(crate) fn answer(
+        self,
+        alloc: Global,
+        version: TextVersion,
+        session: &Session,
+        answer: &Answer,
+    ) -> Result<String, NoMemory>
+        requires { IsPlaced (position_of session.now) answer.now }
+        ensures { IfOk result (λ text. SaysAnswer self (origin_of version session.now)
+            (history_of (made_of session.now)) (place_of session.now) answer.now
+            (string_bytes text)) }
+    {
+        match self {
+            Form::Text => answer_text(alloc, version, session, answer),
+            Form::Json => answer_line(alloc, version, session, answer),
         }
     }
 

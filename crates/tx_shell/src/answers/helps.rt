@@ -1,7 +1,7 @@
 //! Says what can be asked for, and what a word means.
 ghost use Rattle.std.specs.Prelude.{◌≡◌, IfOk, IfSome, IsTrue, None, string_bytes};
 ghost use Rattle.tx_explain.specs.Topics.{asked, is_page, opens};
-ghost use Rattle.tx_shell.specs.Helps.{HelpsOn};
+ghost use Rattle.tx_shell.specs.Reasons.{HelpsOn};
 
 use std::alloc::Global;
 use std::str;
@@ -38,24 +38,6 @@ quit       ends, as exit and the end of the input do
 /// What is said of a word that is not explained.
 const UNKNOWN: &str = "? not explained; help lists the commands, txos explain all other words\n";
 
-/// What can be asked for.
-///
-/// NoMemory where a growth is refused.
-pub fn help(alloc: Global) -> Result<String, NoMemory>
-    ensures { IfOk result (λ text. IsTrue (is_page (string_bytes text))) }
-{
-    text_as(alloc, help_page())
-}
-
-/// What a word means.
-///
-/// NoMemory where a growth is refused.
-pub fn help_on(alloc: Global, word: &[u8]) -> Result<String, NoMemory>
-    ensures { IfOk result (λ text. HelpsOn word.now (string_bytes text)) }
-{
-    text_as(alloc, meaning(word))
-}
-
 /// What is said of a word.
 pub fn meaning(word: &[u8]) -> &'static str
     ensures { HelpsOn word.now result.now }
@@ -79,7 +61,7 @@ fn meaning_of(word: &str) -> &'static str
 }
 
 /// The page of what can be asked for.
-fn help_page() -> &'static str
+pub fn help_page() -> &'static str
     ensures { IsTrue (is_page result.now) }
 {
     HELP

@@ -10,7 +10,7 @@ ghost use Rattle.tx_script.specs.Debug.{first_steps, position_text};
 ghost use Rattle.tx_shell.specs.Journals.{by_number, listed_between, mark_at, mark_before, no_steps_line, or_no_steps};
 ghost use Rattle.tx_shell.specs.Journals.{schedule_so_far, step_line, steps_listed, steps_made, steps_of};
 ghost use Rattle.tx_shell.specs.Places.{origin_of, place_of};
-ghost use Rattle.tx_shell.specs.Versions.{grammar_of};
+ghost use Rattle.tx_shell.specs.Origins.{grammar_of};
 
 use crate::lines::versions::TextVersion;
 use std::alloc::{AllocError, Global};

@@ -1,8 +1,7 @@
 //! Tells what is wrong with a line that is neither a step nor a command.
 ghost use Rattle.std.specs.Prelude.{IfOk, string_bytes};
 ghost use Rattle.tx_check.specs.Sessions.{IsSessionTold};
-ghost use Rattle.tx_shell.specs.Forms.{TellsIn};
-ghost use Rattle.tx_shell.specs.Told.{TellsOf};
+ghost use Rattle.tx_shell.specs.Forms.{TellsIn, TellsOf};
 
 use crate::answers::forms::Form;
 use crate::lines::versions::TextVersion;

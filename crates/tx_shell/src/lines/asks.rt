@@ -3,7 +3,7 @@ ghost use Rattle.std.specs.Prelude.{◌≡◌, ◌≢◌, ◌<◌, ◌^◌, ◌+
 ghost use Rattle.std.specs.Fmt.{decimal};
 ghost use Rattle.tx_lines.specs.Schedule.{IsNoStep};
 ghost use Rattle.tx_lines.specs.declared.read.header.Version.{Version as TheVersion};
-ghost use Rattle.tx_shell.specs.Asks.{ask_text, FitsAsk, IsNoAsk, IsOfWords};
+ghost use Rattle.tx_shell.specs.Asks.{ask_text, lets_go, FitsAsk, IsNoAsk, IsOfWords};
 ghost use Rattle.tx_shell.specs.Pieces.{IsNoPiece};
 ghost use Rattle.tx_shell.specs.declared.lines.asks.Ask.{Ask};
 
@@ -49,6 +49,15 @@ pub enum Ask<'a> {
     Help,
     /// To say what a word means.
     HelpOn(&'a [u8]),
+}
+
+impl Ask<'_> {
+    /// Whether steps are to be let go of.
+    pub fn lets_go(&self) -> bool
+        ensures { result ≡ lets_go self.now }
+    {
+        matches!(self, Ask::Cut)
+    }
 }
 
 /// What a line asks for, in that version. Nothing where it is another line.

@@ -1,6 +1,6 @@
 //! The versions of lines.
 ghost use Rattle.std.specs.Prelude.{◌≡◌};
-ghost use Rattle.tx_shell.specs.Versions.{grammar_of};
+ghost use Rattle.tx_shell.specs.Origins.{grammar_of};
 
 use tx_lines::Version;
 

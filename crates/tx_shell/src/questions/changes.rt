@@ -3,9 +3,8 @@ ghost use Rattle.std.specs.Prelude.{◌≡◌, ◌≤◌, ◌<◌, ◌+◌, ◌+
 ghost use Rattle.tx_journal.specs.Entries.{history_of};
 ghost use Rattle.tx_journal.specs.Sessions.{position_of, IsBetween, SameJournal};
 ghost use Rattle.tx_shell.specs.Changes.{change_line, no_change_text, AllShow, FindsLast, FindsNext, MeetsBack, MeetsNext};
-ghost use Rattle.tx_shell.specs.Changes.{ShowsOthers, TellsFound, TellsLast, TellsNext, TellsStep};
+ghost use Rattle.tx_shell.specs.Changes.{shown_in, ShowsOthers, TellsFound, TellsStep};
 ghost use Rattle.tx_shell.specs.Places.{place_of};
-ghost use Rattle.tx_shell.specs.Shown.{shown_in};
 
 use crate::answers::reserving::reserve_walk;
 use crate::questions::differences::put_differing;
@@ -21,39 +20,6 @@ pub struct Change {
     before: String,
     /// The lines that it has behind it.
     after: String,
-}
-
-/// Goes back to the position behind the step that changed a piece last, and tells it; or to the start,
-/// where none did. It pays for the steps between.
-///
-/// NoMemory where a growth is refused: the position is then the old one, or lies before it.
-pub fn tell_last(alloc: Global, session: &mut Session, piece: Piece) -> Result<String, NoMemory>
-    ensures answer { IfOk result (λ text.
-        TellsLast (shown_in session.old piece) (place_of session.old) (string_bytes text)
-        (place_of session.new)) }
-    ensures stopped { OnErr result
-        (IsBetween (position_of session.old) (position_of session.new) 0) }
-    ensures journal { SameJournal session.new session.old }
-{
-    let found = find_last(alloc, session, piece)?;
-    tell_found(alloc, session, &found)
-}
-
-/// Goes on to the position behind the step that changes a piece next, and tells it; or to the end, where
-/// none does. It pays for the steps between.
-///
-/// NoMemory where a growth is refused: the position is then the old one, or lies behind it.
-pub fn tell_next(alloc: Global, session: &mut Session, piece: Piece) -> Result<String, NoMemory>
-    ensures answer { IfOk result (λ text.
-        TellsNext (shown_in session.old piece) (place_of session.old) (string_bytes text)
-        (place_of session.new)) }
-    ensures stopped { OnErr result
-        (IsBetween (position_of session.old) (position_of session.new)
-        (length (history_of session.old.entries))) }
-    ensures journal { SameJournal session.new session.old }
-{
-    let found = find_next(alloc, session, piece)?;
-    tell_found(alloc, session, &found)
 }
 
 /// Goes back to the position behind the step that changed a piece last: how it did. Nothing where none

@@ -1,15 +1,12 @@
 //! Tells what live transactions have reserved.
 ghost use Rattle.std.specs.Prelude.{◌≡◌, ◌++◌, IfOk, OnOk, string_bytes};
-ghost use Rattle.tx_journal.specs.Entries.{history_of};
-ghost use Rattle.tx_journal.specs.Sessions.{position_of, start_of};
 ghost use Rattle.tx_lines.specs.Lists.{list_text};
 ghost use Rattle.tx_live.specs.Content.{view_of};
 ghost use Rattle.tx_model.specs.Membership.{is_live};
-ghost use Rattle.tx_model.specs.View.{view};
-ghost use Rattle.tx_script.specs.Debug.{first_steps};
 ghost use Rattle.tx_shell.specs.Kinds.{limit_of};
 ghost use Rattle.tx_shell.specs.Owners.{listed_below, or_no_transaction, owned_text, owner_line, owner_lines};
 ghost use Rattle.tx_shell.specs.Owners.{owns_one};
+ghost use Rattle.tx_shell.specs.Places.{view_at};
 
 use crate::answers::helps::text_as;
 use crate::questions::kinds::Kind;
@@ -24,8 +21,7 @@ use tx_lines::{dash, put, put_count, put_member};
 /// NoMemory where a growth is refused.
 pub fn list_owners(alloc: Global, session: &Session) -> Result<String, NoMemory>
     ensures { IfOk result (λ text. string_bytes text
-        ≡ or_no_transaction (owner_lines (view (start_of session.now)
-        (first_steps (position_of session.now) (history_of session.now.entries))))) }
+        ≡ or_no_transaction (owner_lines (view_at session.now))) }
 {
     let mut text = String::new(alloc);
     put_owners(&mut text, session.machine())?;
@@ -37,8 +33,7 @@ pub fn list_owners(alloc: Global, session: &Session) -> Result<String, NoMemory>
 /// NoMemory where a growth is refused.
 pub fn list_owner(alloc: Global, session: &Session, starter: u16) -> Result<String, NoMemory>
     ensures { IfOk result (λ text. string_bytes text
-        ≡ or_no_transaction (owner_line (view (start_of session.now)
-        (first_steps (position_of session.now) (history_of session.now.entries))) starter)) }
+        ≡ or_no_transaction (owner_line (view_at session.now) starter)) }
 {
     let mut text = String::new(alloc);
     put_owner(&mut text, session.machine(), Pid(starter))?;

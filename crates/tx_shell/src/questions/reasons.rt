@@ -2,13 +2,11 @@
 ghost use Rattle.std.specs.Prelude.{◌≡◌, ◌++◌, ℕ, IfOk, List, OnOk, map, string_bytes};
 ghost use Rattle.tx_base.specs.declared.steps.Reply.TheVariants.{No};
 ghost use Rattle.tx_journal.specs.Entries.{history_of};
-ghost use Rattle.tx_journal.specs.Sessions.{made_of, position_of, start_of};
-ghost use Rattle.tx_lines.specs.Lines.{step_text};
-ghost use Rattle.tx_script.specs.Debug.{first_steps};
+ghost use Rattle.tx_journal.specs.Sessions.{made_of, start_of};
 ghost use Rattle.tx_shell.specs.Blockers.{blocked, blocked_by, blocked_of};
-ghost use Rattle.tx_shell.specs.Reasons.{answered_text, busy_lines, fact_lines, IsReason, TellsReason, TellsRefusal, TellsRefused, TellsReply, TellsWhy};
+ghost use Rattle.tx_shell.specs.Reasons.{answered_text, busy_lines, fact_lines, IsReason, TellsReason, TellsRefusal, TellsReply, TellsWhy};
 
-use crate::answers::helps::{meaning, text_as};
+use crate::answers::helps::meaning;
 use crate::questions::blockers::{Blocker, blockers, put_objects};
 use crate::questions::holders::awaited_holders;
 use crate::questions::signals::put_signals;
@@ -64,18 +62,20 @@ fn blockers_by<'a>(
     }
 }
 
-/// Why a step would be refused at the position, or what it would be answered.
+/// Why a step would get this reply at the position.
 ///
 /// NoMemory where a growth is refused.
-pub fn tell_why(alloc: Global, session: &mut Session, step: &Step) -> Result<String, NoMemory>
-    ensures answer { IfOk result (λ text. TellsWhy (start_of session.old)
-        (first_steps (position_of session.old) (history_of session.old.entries)) step.now
-        (string_bytes text)) }
-    ensures same { session.new ≡ session.old }
+pub fn tell_why(
+    alloc: Global,
+    session: &Session,
+    step: &Step,
+    reply: &Reply,
+) -> Result<String, NoMemory>
+    ensures { IfOk result (λ text. TellsWhy (start_of session.now) (history_of (made_of session.now))
+        step.now reply.now (string_bytes text)) }
 {
-    let reply = session.reply_to(alloc, step)?;
-    let reason = reason_of(alloc, session, step, &reply)?;
-    why_text(alloc, session, step, &reply, &reason)
+    let reason = reason_of(alloc, session, step, reply)?;
+    why_text(alloc, session, step, reply, &reason)
 }
 
 /// Why a step would get this reply.
@@ -90,34 +90,13 @@ pub fn why_text(
 ) -> Result<String, NoMemory>
     requires { IsReason (start_of session.now) (history_of (made_of session.now)) step.now
         reply.now reason.now }
-    ensures { IfOk result (λ text. (behind : List ℕ)
-        × (string_bytes text ≡ step_text step.now ++ behind)
-        × TellsReply (start_of session.now) (history_of (made_of session.now)) step.now reply.now
-        behind) }
+    ensures { IfOk result (λ text. TellsWhy (start_of session.now) (history_of (made_of session.now))
+        step.now reply.now (string_bytes text)) }
 {
     let mut text = String::new(alloc);
     put_step(&mut text, step)?;
     put_behind(&mut text, session, step, reply, reason)?;
     Ok(text)
-}
-
-/// Why the step that was refused last would be refused at the position, or that none was.
-///
-/// NoMemory where a growth is refused.
-pub fn tell_refused(
-    alloc: Global,
-    session: &mut Session,
-    refused: &Option<Step>,
-) -> Result<String, NoMemory>
-    ensures answer { IfOk result (λ text. TellsRefused (start_of session.old)
-        (first_steps (position_of session.old) (history_of session.old.entries)) refused.now
-        (string_bytes text)) }
-    ensures same { session.new ≡ session.old }
-{
-    match refused {
-        Some(step) => tell_why(alloc, session, step),
-        None => text_as(alloc, "nothing was refused\n"),
-    }
 }
 
 /// Appends what is told of a step that would get this reply.

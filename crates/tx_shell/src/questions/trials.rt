@@ -1,52 +1,34 @@
 //! Answers what would be, and leaves all as it is.
-ghost use Rattle.std.specs.Prelude.{◌≡◌, IfOk, string_bytes};
+ghost use Rattle.std.specs.Prelude.{◌≡◌, IfOk, option_map, string_bytes};
 ghost use Rattle.tx_journal.specs.Entries.{history_of};
-ghost use Rattle.tx_journal.specs.Sessions.{position_of, start_of};
+ghost use Rattle.tx_journal.specs.Sessions.{made_of, start_of};
 ghost use Rattle.tx_journal.specs.Trials.{answer_there, shown_at, shown_with};
-ghost use Rattle.tx_script.specs.Debug.{first_steps};
-ghost use Rattle.tx_shell.specs.Answers.{tried_text, TellsWithout};
-ghost use Rattle.tx_shell.specs.Differences.{views_differing};
-ghost use Rattle.tx_shell.specs.Places.{place_of};
+ghost use Rattle.tx_shell.specs.Differences.{differing_without, views_differing};
 
-use crate::answers::helps::text_as;
 use crate::questions::differences::put_all_differing;
 use crate::questions::owners::is_live;
 use std::alloc::Global;
 use tx_base::{NoMemory, Pid, Reply, Step};
 use tx_journal::{Session, print_pieces};
-use tx_lines::put;
-use tx_text::put_named_reply;
 
-/// The reply that a step would get at the position, and how the state after it would differ.
+/// How the state would differ that an abort of the live transaction of a starter would leave. Nothing
+/// where it has none.
 ///
 /// NoMemory where a growth is refused.
-pub fn try_step(alloc: Global, session: &mut Session, step: &Step) -> Result<String, NoMemory>
-    ensures answer { IfOk result (λ text. string_bytes text ≡ tried_text (start_of session.old)
-        (first_steps (position_of session.old) (history_of session.old.entries)) step.now) }
-    ensures same { session.new ≡ session.old }
-{
-    let (reply, lines) = try_at(alloc, session, step)?;
-    let mut text = String::new(alloc);
-    put_named_reply(&mut text, &reply)?;
-    put(&mut text, "\n")?;
-    put(&mut text, lines.as_str())?;
-    Ok(text)
-}
-
-/// How the state would differ that an abort of the live transaction of a starter would leave, or that
-/// there is none.
-///
-/// NoMemory where a growth is refused.
-pub fn without(alloc: Global, session: &mut Session, starter: u16) -> Result<String, NoMemory>
-    ensures answer { IfOk result (λ text.
-        TellsWithout (start_of session.old) (place_of session.old) starter (string_bytes text)) }
+pub fn without(
+    alloc: Global,
+    session: &mut Session,
+    starter: u16,
+) -> Result<Option<String>, NoMemory>
+    ensures answer { IfOk result (λ differences. option_map string_bytes differences
+        ≡ differing_without (start_of session.old) (history_of (made_of session.old)) starter) }
     ensures same { session.new ≡ session.old }
 {
     if !is_live(session.machine(), Pid(starter)) {
-        return text_as(alloc, "no transaction\n");
+        return Ok(None);
     }
     let (_reply, lines) = try_at(alloc, session, &Step::KernelAbort(Pid(starter)))?;
-    Ok(lines)
+    Ok(Some(lines))
 }
 
 /// The reply that a step would get at the position, and how the state after it would differ. It prints

@@ -1,88 +1,36 @@
 //! Tells as JSON what live transactions have reserved, and what would be without one.
-ghost use Rattle.std.specs.Prelude.{◌≡◌, ◌++◌, ◌<◌, IfOk, OnOk, Option, string_bytes};
-ghost use Rattle.tx_base.specs.declared.steps.Step.{Step};
+ghost use Rattle.std.specs.Prelude.{◌≡◌, ◌++◌, ◌<◌, OnOk};
 ghost use Rattle.tx_live.specs.Content.{view_of};
-ghost use Rattle.tx_shell.specs.Answers.{AnswersAskJson};
 ghost use Rattle.tx_shell.specs.Kinds.{limit_of};
 ghost use Rattle.tx_shell.specs.Members.{listed_item, owned_member, owner_item, owner_member, owners_member, transaction_member};
 ghost use Rattle.tx_shell.specs.Owners.{owns_one};
-ghost use Rattle.tx_shell.specs.Places.{origin_of, place_of};
-ghost use Rattle.tx_shell.specs.declared.lines.asks.Ask.TheVariants as asks;
-ghost use Rattle.tx_shell.specs.declared.lines.versions.TextVersion.{TextVersion};
 
 use crate::questions::kinds::Kind;
-use crate::questions::owners::{is_live, list_owner, list_owners};
-use crate::questions::trials::without;
-use std::alloc::{AllocError, Global};
-use tx_base::{NoMemory, Pid};
+use crate::questions::owners::is_live;
+use std::alloc::AllocError;
+use tx_base::Pid;
 use tx_core::Machine;
-use tx_journal::Session;
 use tx_json::{
-    LineWriter, begin_lines, begin_list, begin_object, end_answer, end_list, end_object, put_count,
-    put_count_item, put_null,
+    LineWriter, begin_list, begin_object, end_list, end_object, put_count, put_count_item, put_null,
 };
 
-/// What each live transaction has reserved at the position.
-///
-/// NoMemory where a growth is refused.
-pub fn tell_owners(alloc: Global, session: &Session) -> Result<String, NoMemory>
-    ensures { (version : TextVersion) (refused : Option Step) → IfOk result (λ text.
-        AnswersAskJson (origin_of version session.now) (place_of session.now) refused asks.Owns
-        (string_bytes text) (place_of session.now)) }
-{
-    let told = list_owners(alloc, session)?;
-    let mut writer = begin_lines(alloc, session.position(), told.as_str())?;
-    put_owners(&mut writer, session.machine())?;
-    end_answer(writer)
-}
-
-/// What the live transaction that a process began has reserved at the position.
-///
-/// NoMemory where a growth is refused.
-pub fn tell_owner(alloc: Global, session: &Session, starter: u16) -> Result<String, NoMemory>
-    ensures { (version : TextVersion) (refused : Option Step) → IfOk result (λ text.
-        AnswersAskJson (origin_of version session.now) (place_of session.now) refused
-        (asks.OwnsOf starter) (string_bytes text) (place_of session.now)) }
-{
-    let told = list_owner(alloc, session, starter)?;
-    let mut writer = begin_lines(alloc, session.position(), told.as_str())?;
-    put_owner_alone(&mut writer, session.machine(), Pid(starter))?;
-    end_answer(writer)
-}
-
-/// How the state would differ without the live transaction of a starter, and that, where there is one.
-///
-/// NoMemory where a growth is refused.
-pub fn tell_without(alloc: Global, session: &mut Session, starter: u16) -> Result<String, NoMemory>
-    ensures answer { (version : TextVersion) (refused : Option Step) → IfOk result (λ text.
-        AnswersAskJson (origin_of version session.old) (place_of session.old) refused
-        (asks.Without starter) (string_bytes text) (place_of session.old)) }
-    ensures same { session.new ≡ session.old }
-{
-    let told = without(alloc, session, starter)?;
-    let mut writer = begin_lines(alloc, session.position(), told.as_str())?;
-    put_transaction(&mut writer, session.machine(), Pid(starter))?;
-    end_answer(writer)
-}
-
-/// Appends the starter of a transaction, or that there is none where it has none live.
-fn put_transaction(
+/// Appends the starter of a transaction, or that there is none where nothing would differ without it.
+pub fn put_transaction(
     writer: &mut LineWriter,
-    machine: &Machine,
-    starter: Pid,
+    starter: u16,
+    differences: &Option<String>,
 ) -> Result<(), AllocError>
     ensures { OnOk result
-        (writer.new ≡ writer.old ++ transaction_member (view_of machine.now) starter.0) }
+        (writer.new ≡ writer.old ++ transaction_member starter differences.now) }
 {
-    if is_live(machine, starter) {
-        put_count(writer, "transaction", u64::from(starter.0))
-    } else {
-        put_null(writer, "transaction")
+    match differences {
+        Some(_lines) => put_count(writer, "transaction", u64::from(starter)),
+        None => put_null(writer, "transaction"),
     }
 }
 
 /// Appends each live transaction, by rising starters.
-fn put_owners(writer: &mut LineWriter, machine: &Machine) -> Result<(), AllocError>
+pub fn put_owners(writer: &mut LineWriter, machine: &Machine) -> Result<(), AllocError>
     ensures { OnOk result
         (writer.new ≡ writer.old ++ owners_member (view_of machine.now)) }
 {
@@ -94,7 +42,7 @@ fn put_owners(writer: &mut LineWriter, machine: &Machine) -> Result<(), AllocErr
 }
 
 /// Appends the live transaction that a process began, as a list.
-fn put_owner_alone(
+pub fn put_owner_alone(
     writer: &mut LineWriter,
     machine: &Machine,
     starter: Pid,

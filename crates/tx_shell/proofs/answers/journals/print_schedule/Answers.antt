@@ -8,7 +8,7 @@ use Rattle.tx_lines.specs.declared.read.header.TextKind.TheVariants.{Schedule}
 use Rattle.tx_shell.proofs.Listed.{made_steps}
 use Rattle.tx_shell.proofs.Replayed.{replayed}
 use Rattle.tx_shell.specs.Journals.{steps_of}
-use Rattle.tx_shell.specs.Versions.{grammar_of}
+use Rattle.tx_shell.specs.Origins.{grammar_of}
 use Rattle.tx_shell.proofs.answers.journals.print_schedule.Goals as goal
 
 pub returns-clause-leads : goal.returns-clause-leads

@@ -1,10 +1,11 @@
-use Rattle.std.proofs.Common.{◌++◌, ◌∙◌, ap, append_assoc, codes, refl}
+use Rattle.std.proofs.Common.{◌++◌, ◌∙◌, Option, ap, append_assoc, codes, sym}
 use Rattle.std.proofs.lemmas.Result.{on_ok_weaker}
+use Rattle.tx_base.specs.declared.steps.Accepted.{Accepted}
 use Rattle.tx_journal.specs.Entries.{accepted_of, entry_at}
 use Rattle.tx_journal.specs.Sessions.{position_of}
 use Rattle.tx_json.specs.Members.{object_key}
 use Rattle.tx_shell.proofs.Found.{step_made}
-use Rattle.tx_shell.specs.Members.{step_tokens}
+use Rattle.tx_shell.specs.Members.{made_member, step_tokens}
 use Rattle.tx_shell.proofs.answers.as_json.changes.put_last.Goals as goal
 
 pub returns : goal.returns
@@ -12,16 +13,10 @@ returns c =
     let k = c.args.session.now in
     let entry = c.in-Some.entry.now in
     let number = position_of k in
-    let members = object_key (codes "change") ++ step_tokens number (accepted_of entry) in
+    let front = c.args.writer.now in
     on_ok_weaker c.put_made.result
-    (λ put. (
-      members,
-      put
-          ∙ (λ i. c.in_ok-put_key.ensures i ++ step_tokens (c.position-position.ensures.count i) (accepted_of entry))
-          ∙ append_assoc c.args.writer.now (object_key (codes "change")) (step_tokens number (accepted_of entry)),
-      record {
-        entry = accepted_of entry;
-        made = step_made k.entries number entry (c.in-Some.ensures ∙ ap (entry_at k.entries) c.position-position.ensures.count);
-        says = refl;
-      },
-    )) c.put_made.ensures
+    (λ put.
+    put
+    ∙ (λ i. c.in_ok-put_key.ensures i ++ step_tokens (c.position-position.ensures.count i) (accepted_of entry))
+    ∙ append_assoc front (object_key (codes "change")) (step_tokens number (accepted_of entry))
+    ∙ ap (λ (made : Option Accepted). front ++ made_member number made) (sym (step_made k.entries number entry (c.in-Some.ensures ∙ ap (entry_at k.entries) c.position-position.ensures.count)))) c.put_made.ensures

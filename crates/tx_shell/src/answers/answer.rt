@@ -1,0 +1,157 @@
+//! Finds what is answered to what is asked for, once for every form.
+ghost use Rattle.std.specs.Prelude.{◌≡◌, IfOk, OnOk, string_bytes};
+ghost use Rattle.tx_journal.specs.Entries.{history_of};
+ghost use Rattle.tx_journal.specs.Sessions.{made_of, position_of, start_of, IsBetween, SameJournal};
+ghost use Rattle.tx_journal.specs.Trials.{answer_there};
+ghost use Rattle.tx_script.specs.Debug.{command_answer, position_after};
+ghost use Rattle.tx_shell.specs.Answers.{last_why, IsAnswer, Walks};
+ghost use Rattle.tx_shell.specs.Places.{place_of};
+ghost use Rattle.tx_shell.specs.Forms.{IsPlaced};
+ghost use Rattle.tx_shell.specs.Refused.{StopsShort};
+ghost use Rattle.tx_shell.specs.declared.answers.answer.Answer.TheVariants as answers;
+
+use crate::answers::count_steps;
+use crate::answers::helps::{help_page, meaning};
+use crate::answers::reserving::reserve_walk;
+use crate::lines::asks::Ask;
+use crate::questions::changes::{Change, find_last, find_next};
+use crate::questions::trials::{try_at, without};
+use std::alloc::Global;
+use tx_base::{NoMemory, Reply, Step};
+use tx_journal::Session;
+use tx_lines::Command;
+use tx_script::put_answer;
+
+/// What is answered to what is asked for. It is printed with the session at the position to which that
+/// led: the state, the steps and the position are printed from there.
+#[derive(Drop)]
+pub enum Answer {
+    /// The lines that the debugger answers.
+    Walked(String),
+    /// The state.
+    State,
+    /// The position.
+    Position,
+    /// The steps from one number to another, and the position among them.
+    Steps(u64, u64),
+    /// The text of the schedule that makes the steps up to the position.
+    Schedule,
+    /// The reply that a step would get, and by which lines the state after it would differ.
+    Trial(Reply, String),
+    /// By which lines the state would differ without the transaction of this starter. Nothing where
+    /// it has none.
+    Without(u16, Option<String>),
+    /// How the step directly before the position changed a piece. Nothing where no step does.
+    Change(Option<Change>),
+    /// Why a step would get this reply.
+    Why(Step, Reply),
+    /// That no step was refused.
+    NothingRefused,
+    /// What each live transaction has reserved.
+    Owners,
+    /// What the live transaction of this starter has reserved.
+    OwnersOf(u16),
+    /// A page of help.
+    Page(&'static str),
+}
+
+/// Goes where what is asked for leads, and gives its answer. A cut lets go of no step yet.
+///
+/// NoMemory where a growth is refused: no step came or went then, and the position lies between the
+/// old one and that which is asked for.
+pub fn find_answer(
+    alloc: Global,
+    session: &mut Session,
+    refused: &Option<Step>,
+    ask: Ask<'_>,
+) -> Result<Answer, NoMemory>
+    ensures answer { IfOk result (λ answer. IsAnswer (start_of session.old)
+        (history_of (made_of session.old)) (place_of session.old) refused.now ask.entry answer
+        (place_of session.new)) }
+    ensures placed { IfOk result (λ answer. IsPlaced (position_of session.new) answer) }
+    ensures between { StopsShort (place_of session.old) ask.entry (place_of session.new) }
+    ensures journal { SameJournal session.new session.old }
+{
+    let last = count_steps(session) as u64;
+    match ask {
+        Ask::Walk(command) => walk(alloc, session, command),
+        Ask::GotoEnd => walk(alloc, session, Command::Goto(last)),
+        Ask::Steps => Ok(Answer::Steps(1, last)),
+        Ask::StepsFrom(first) => Ok(Answer::Steps(first, last)),
+        Ask::StepsBetween(first, last) => Ok(Answer::Steps(first, last)),
+        Ask::Text => Ok(Answer::Schedule),
+        Ask::Try(step) => {
+            let (reply, differences) = try_at(alloc, session, &step)?;
+            Ok(Answer::Trial(reply, differences))
+        }
+        Ask::When(piece) => Ok(Answer::Change(find_last(alloc, session, piece)?)),
+        Ask::Next(piece) => Ok(Answer::Change(find_next(alloc, session, piece)?)),
+        Ask::Without(starter) => { Ok(Answer::Without(starter, without(alloc, session, starter)?)) }
+        Ask::Why(step) => why(alloc, session, step),
+        Ask::WhyRefused => why_refused(alloc, session, refused),
+        Ask::Owns => Ok(Answer::Owners),
+        Ask::OwnsOf(starter) => Ok(Answer::OwnersOf(starter)),
+        Ask::Cut => Ok(Answer::Position),
+        Ask::Help => Ok(Answer::Page(help_page())),
+        Ask::HelpOn(word) => Ok(Answer::Page(meaning(word))),
+    }
+}
+
+/// Does what a command of the debugger says, and gives its answer.
+fn walk(alloc: Global, session: &mut Session, command: Command) -> Result<Answer, NoMemory>
+    ensures answer { IfOk result (λ answer. Walks (start_of session.old) (place_of session.old)
+        command answer (place_of session.new)) }
+    ensures placed { IfOk result (λ answer. IsPlaced (position_of session.new) answer) }
+    ensures between { IsBetween (position_of session.old) (position_of session.new)
+        (position_after (history_of session.old.entries) (position_of session.old) command) }
+    ensures journal { SameJournal session.new session.old }
+{
+    match command {
+        Command::State => Ok(Answer::State),
+        command => Ok(Answer::Walked(walked(alloc, session, command)?)),
+    }
+}
+
+/// Does what a command of the debugger says, and gives the lines that it answers.
+fn walked(alloc: Global, session: &mut Session, command: Command) -> Result<String, NoMemory>
+    ensures told { IfOk result (λ text. string_bytes text ≡ command_answer (start_of session.old)
+        (history_of session.old.entries) (position_of session.old) command) }
+    ensures moved { OnOk result (position_of session.new
+        ≡ position_after (history_of session.old.entries) (position_of session.old) command) }
+    ensures between { IsBetween (position_of session.old) (position_of session.new)
+        (position_after (history_of session.old.entries) (position_of session.old) command) }
+    ensures journal { SameJournal session.new session.old }
+{
+    reserve_walk(session, command);
+    let mut text = String::new(alloc);
+    match put_answer(alloc, &mut text, session, command) {
+        Ok(()) => Ok(text),
+        Err(_refused) => Err(NoMemory),
+    }
+}
+
+/// Why a step would be refused at the position, or what it would be answered.
+fn why(alloc: Global, session: &mut Session, step: Step) -> Result<Answer, NoMemory>
+    ensures answer { IfOk result (λ answer.
+        answer ≡ answers.Why step (answer_there session.old step)) }
+    ensures same { session.new ≡ session.old }
+{
+    let reply = session.reply_to(alloc, &step)?;
+    Ok(Answer::Why(step, reply))
+}
+
+/// Why the step would be refused at the position that was refused last, or that none was.
+fn why_refused(
+    alloc: Global,
+    session: &mut Session,
+    refused: &Option<Step>,
+) -> Result<Answer, NoMemory>
+    ensures answer { IfOk result (λ answer. answer ≡ last_why (start_of session.old)
+        (history_of (made_of session.old)) refused.now) }
+    ensures same { session.new ≡ session.old }
+{
+    match refused {
+        Some(step) => why(alloc, session, step.copy()),
+        None => Ok(Answer::NothingRefused),
+    }
+}

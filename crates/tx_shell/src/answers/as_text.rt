@@ -1,0 +1,74 @@
+//! Prints an answer as text.
+ghost use Rattle.std.specs.Prelude.{◌≡◌, ◌++◌, ◌∷◌, IfOk, option_map, string_bytes};
+ghost use Rattle.tx_journal.specs.Entries.{history_of};
+ghost use Rattle.tx_journal.specs.Sessions.{made_of, position_of};
+ghost use Rattle.tx_shell.specs.Places.{origin_of, place_of};
+ghost use Rattle.tx_shell.specs.Forms.{without_text, IsPlaced, TellsAnswer};
+ghost use Rattle.tx_text.specs.Replies.{named_reply_text};
+
+use crate::answers::answer::Answer;
+use crate::answers::helps::text_as;
+use crate::answers::journals::{list_steps, position_line, print_schedule};
+use crate::lines::versions::TextVersion;
+use crate::questions::changes::tell_found;
+use crate::questions::owners::{list_owner, list_owners};
+use crate::questions::reasons::tell_why;
+use std::alloc::Global;
+use tx_base::{NoMemory, Reply};
+use tx_journal::Session;
+use tx_lines::put;
+use tx_text::put_named_reply;
+
+/// The lines of an answer.
+///
+/// NoMemory where a growth is refused.
+pub fn answer_text(
+    alloc: Global,
+    version: TextVersion,
+    session: &Session,
+    answer: &Answer,
+) -> Result<String, NoMemory>
+    requires { IsPlaced (position_of session.now) answer.now }
+    ensures { IfOk result (λ text. TellsAnswer (origin_of version session.now)
+        (history_of (made_of session.now)) (place_of session.now) answer.now
+        (string_bytes text)) }
+{
+    match answer {
+        Answer::Walked(lines) => text_as(alloc, lines.as_str()),
+        Answer::State => session.state_text(alloc),
+        Answer::Position => position_line(alloc, session.position()),
+        Answer::Steps(first, last) => list_steps(alloc, session, *first, *last),
+        Answer::Schedule => print_schedule(alloc, version, session),
+        Answer::Trial(reply, differences) => trial_text(alloc, reply, differences.as_str()),
+        Answer::Without(_, differences) => without_text(alloc, differences),
+        Answer::Change(found) => tell_found(alloc, session, found),
+        Answer::Why(step, reply) => tell_why(alloc, session, step, reply),
+        Answer::NothingRefused => text_as(alloc, "nothing was refused\n"),
+        Answer::Owners => list_owners(alloc, session),
+        Answer::OwnersOf(starter) => list_owner(alloc, session, *starter),
+        Answer::Page(page) => text_as(alloc, page),
+    }
+}
+
+/// The reply that a step would get, and the lines by which the state would differ.
+fn trial_text(alloc: Global, reply: &Reply, differences: &str) -> Result<String, NoMemory>
+    ensures { IfOk result (λ text. string_bytes text
+        ≡ named_reply_text reply.now ++ 10 ∷ differences.now) }
+{
+    let mut text = String::new(alloc);
+    put_named_reply(&mut text, reply)?;
+    put(&mut text, "\n")?;
+    put(&mut text, differences)?;
+    Ok(text)
+}
+
+/// The lines by which the state would differ without a transaction, or that there is none.
+fn without_text(alloc: Global, differences: &Option<String>) -> Result<String, NoMemory>
+    ensures { IfOk result (λ text. string_bytes text
+        ≡ without_text (option_map string_bytes differences.now)) }
+{
+    match differences {
+        Some(lines) => text_as(alloc, lines.as_str()),
+        None => text_as(alloc, "no transaction\n"),
+    }
+}
