@@ -6,7 +6,7 @@ use Rattle.tx_base.specs.declared.steps.Accepted.{Accepted}
 use Rattle.tx_base.specs.declared.steps.Reply.{Reply}
 use Rattle.tx_base.specs.declared.steps.Step.{Step}
 use Rattle.tx_journal.specs.Entries.{history_of}
-use Rattle.tx_journal.specs.Sessions.{IsAtEnd, SessionState, SameBoot, SameJournal, position_of, start_of}
+use Rattle.tx_journal.specs.Sessions.{IsAtEnd, SessionState, SameBoot, position_of, start_of}
 use Rattle.tx_json.specs.Answers.{lines_answer, step_answer}
 use Rattle.tx_lines.specs.declared.read.command.Command.{Command}
 use Rattle.tx_lines.specs.declared.read.command.Command.TheVariants as commands
@@ -15,7 +15,7 @@ use Rattle.tx_model.specs.Schedules.{history_with, history_of as history_after}
 use Rattle.tx_model.specs.State.{State}
 use Rattle.tx_model.specs.View.{view}
 use Rattle.tx_script.proofs.StepsMade.{history_length, replied, same_start, StepsSoFar}
-use Rattle.tx_script.specs.JsonLines.{command_line, command_lines, line_of, step_lines, text_of}
+use Rattle.tx_script.specs.JsonLines.{command_line, line_of, step_lines, text_of}
 use Rattle.tx_script.specs.Debug.{command_answer, position_after}
 
 -- ---- lines
@@ -99,47 +99,3 @@ told_by_lines start history at commands.Forward other = refl
 told_by_lines start history at (commands.Goto to) other = refl
 told_by_lines start history at commands.State other = absurd (other refl)
 told_by_lines start history at (commands.Moved number) other = refl
-
--- so far: the commands that are left are answered from the position so far on
-pub record CommandsSoFar (first now : SessionState) (commands left : List Command) (before text : List ℕ) : Type 0 where
-  pub told : before ++ text_of (command_lines (start_of first) (history_of first.entries) (position_of first) commands)
-      ≡ text ++ text_of (command_lines (start_of first) (history_of first.entries) (position_of now) left)
-  pub journal : SameJournal now first
-
-pub no_commands : (first : SessionState) (commands : List Command) (text : List ℕ) → CommandsSoFar first first commands commands text text
-no_commands first commands text = record { told = refl; journal = record { entries = refl; boot = record { width = refl; count = refl } } }
-
-pub one_command_more : (first old new : SessionState) (commands : List Command) (command : Command) (left : List Command) (before text more : List ℕ) → CommandsSoFar first old commands (command ∷ left) before text
-    → more ≡ text ++ line_of (command_line (start_of old) (history_of old.entries) (position_of old) command) → position_of new ≡ position_after (history_of old.entries) (position_of old) command → SameJournal new old
-    → CommandsSoFar first new commands left before more
-unfolding text_of command_lines
-one_command_more first old new commands command left before text more so put moved same = record {
-  told = so.told
-      ∙ ap (λ (n : ℕ). text ++ (line_of (command_line start history now command) ++ text_of (command_lines start history n left))) (sym (moved ∙ ap (λ (h : List Accepted). position_after h now command) history_same))
-      ∙ line_behind text (line_of (command_line start history now command)) (text_of (command_lines start history (position_of new) left)) more (put ∙ ap (λ (t : List Token). text ++ line_of t) line_same);
-  journal = record {
-    entries = same.entries ∙ so.journal.entries;
-    boot = record { width = same.boot.width ∙ so.journal.boot.width; count = same.boot.count ∙ so.journal.boot.count };
-  };
-}
-  where
-    start : State
-    start = start_of first
-
-    history : List Accepted
-    history = history_of first.entries
-
-    now : ℕ
-    now = position_of old
-
-    history_same : history_of old.entries ≡ history
-    history_same = ap history_of so.journal.entries
-
-    line_same : command_line (start_of old) (history_of old.entries) now command ≡ command_line start history now command
-    line_same = ap (λ (S : State). command_line S (history_of old.entries) now command) (same_start old first so.journal.boot) ∙ ap (λ (h : List Accepted). command_line start h now command) history_same
-
-pub commands_whole : (first now : SessionState) (commands left : List Command) (before text : List ℕ) → CommandsSoFar first now commands left before text → left ≡ []
-    → text ≡ before ++ text_of (command_lines (start_of first) (history_of first.entries) (position_of first) commands)
-unfolding text_of command_lines
-commands_whole first now commands left before text so none =
-    sym (so.told ∙ ap (λ (xs : List Command). text ++ text_of (command_lines (start_of first) (history_of first.entries) (position_of now) xs)) none ∙ append-nil text)

@@ -7,7 +7,7 @@ use Rattle.tx_journal.specs.Entries.{history_of}
 use Rattle.tx_journal.specs.Sessions.{SessionState, SameJournal, position_of, start_of}
 use Rattle.tx_model.specs.State.{State}
 use Rattle.tx_script.proofs.StepsMade.{history_length, same_start}
-use Rattle.tx_script.specs.Debug.{answers_at, command_answer, position_after, position_text}
+use Rattle.tx_script.specs.Debug.{answers_at, command_answer, position_after, position_text, Writing}
 use Rattle.tx_lines.specs.declared.read.command.Command.{Command}
 use Rattle.tx_lines.specs.declared.read.command.Command.TheVariants.{Forward}
 
@@ -23,21 +23,23 @@ went_forward start history at after moved can =
     (rw can (ap position_text moved), rw can moved)
 
 -- so far: the commands that are left answer from the position so far on
-pub record CommandsSoFar (first now : SessionState) (commands left : List Command) (before text : List ℕ) : Type 0 where
-  pub told : before ++ answers_at (start_of first) (history_of first.entries) (position_of first) commands ≡ text ++ answers_at (start_of first) (history_of first.entries) (position_of now) left
+pub record CommandsSoFar (written : Writing) (first now : SessionState) (commands left : List Command) (before text : List ℕ) : Type 0 where
+  pub told : before ++ answers_at written (start_of first) (history_of first.entries) (position_of first) commands
+      ≡ text ++ answers_at written (start_of first) (history_of first.entries) (position_of now) left
   pub journal : SameJournal now first
 
-pub no_commands : (first : SessionState) (commands : List Command) (text : List ℕ) → CommandsSoFar first first commands commands text text
-no_commands first commands text = record { told = refl; journal = record { entries = refl; boot = record { width = refl; count = refl } } }
+pub no_commands : (written : Writing) (first : SessionState) (commands : List Command) (text : List ℕ) → CommandsSoFar written first first commands commands text text
+no_commands written first commands text = record { told = refl; journal = record { entries = refl; boot = record { width = refl; count = refl } } }
 
-pub one_command_more : (first old new : SessionState) (commands : List Command) (command : Command) (left : List Command) (before text more : List ℕ) → CommandsSoFar first old commands (command ∷ left) before text
-    → more ≡ text ++ command_answer (start_of old) (history_of old.entries) (position_of old) command → position_of new ≡ position_after (history_of old.entries) (position_of old) command → SameJournal new old
-    → CommandsSoFar first new commands left before more
-one_command_more first old new commands command left before text more so put moved same = record {
+pub one_command_more : (written : Writing) (first old new : SessionState) (commands : List Command) (command : Command) (left : List Command) (before text more : List ℕ)
+    → CommandsSoFar written first old commands (command ∷ left) before text
+    → more ≡ text ++ written (start_of old) (history_of old.entries) (position_of old) command → position_of new ≡ position_after (history_of old.entries) (position_of old) command → SameJournal new old
+    → CommandsSoFar written first new commands left before more
+one_command_more written first old new commands command left before text more so put moved same = record {
   told = so.told
-      ∙ sym (append_assoc text (command_answer start history now command) (answers_at start history (position_after history now command) left))
-      ∙ ap (λ (t : List ℕ). t ++ answers_at start history (position_after history now command) left) (sym (put ∙ ap (λ (t : List ℕ). text ++ t) answer_same))
-      ∙ ap (λ (n : ℕ). more ++ answers_at start history n left) (sym (moved ∙ ap (λ (h : List Accepted). position_after h now command) history_same));
+      ∙ sym (append_assoc text (written start history now command) (answers_at written start history (position_after history now command) left))
+      ∙ ap (λ (t : List ℕ). t ++ answers_at written start history (position_after history now command) left) (sym (put ∙ ap (λ (t : List ℕ). text ++ t) answer_same))
+      ∙ ap (λ (n : ℕ). more ++ answers_at written start history n left) (sym (moved ∙ ap (λ (h : List Accepted). position_after h now command) history_same));
   journal = record {
     entries = same.entries ∙ so.journal.entries;
     boot = record { width = same.boot.width ∙ so.journal.boot.width; count = same.boot.count ∙ so.journal.boot.count };
@@ -56,10 +58,10 @@ one_command_more first old new commands command left before text more so put mov
     history_same : history_of old.entries ≡ history
     history_same = ap history_of so.journal.entries
 
-    answer_same : command_answer (start_of old) (history_of old.entries) now command ≡ command_answer start history now command
-    answer_same = ap (λ (S : State). command_answer S (history_of old.entries) now command) (same_start old first so.journal.boot) ∙ ap (λ (h : List Accepted). command_answer start h now command) history_same
+    answer_same : written (start_of old) (history_of old.entries) now command ≡ written start history now command
+    answer_same = ap (λ (S : State). written S (history_of old.entries) now command) (same_start old first so.journal.boot) ∙ ap (λ (h : List Accepted). written start h now command) history_same
 
-pub commands_whole : (first now : SessionState) (commands left : List Command) (before text : List ℕ) → CommandsSoFar first now commands left before text → left ≡ []
-    → text ≡ before ++ answers_at (start_of first) (history_of first.entries) (position_of first) commands
-commands_whole first now commands left before text so none =
-    sym (so.told ∙ ap (λ (xs : List Command). text ++ answers_at (start_of first) (history_of first.entries) (position_of now) xs) none ∙ append-nil text)
+pub commands_whole : (written : Writing) (first now : SessionState) (commands left : List Command) (before text : List ℕ) → CommandsSoFar written first now commands left before text → left ≡ []
+    → text ≡ before ++ answers_at written (start_of first) (history_of first.entries) (position_of first) commands
+commands_whole written first now commands left before text so none =
+    sym (so.told ∙ ap (λ (xs : List Command). text ++ answers_at written (start_of first) (history_of first.entries) (position_of now) xs) none ∙ append-nil text)

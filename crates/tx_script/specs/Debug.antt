@@ -53,12 +53,16 @@ position_after history at (Goto to) = if nat_le to (length history) then to else
 position_after history at State = at
 position_after history at (Moved number) = at
 
--- what some commands answer in turn, from a position on
-abbrev pub answers_at : Start → List Accepted → ℕ → List Command → List ℕ
-answers_at start history at [] = []
-answers_at start history at (command ∷ commands) = command_answer start history at command ++ answers_at start history (position_after history at command) commands
+-- how the answer to a command at a position is written
+abbrev pub Writing : Type 0
+Writing = Start → List Accepted → ℕ → Command → List ℕ
 
--- what the commands of a text answer, of which the first stands at the end of the schedule's history
-abbrev pub walk_answers : Header → List Step → List Command → List ℕ
-walk_answers header steps commands =
-    let history = history_of (start_state header) [] steps in answers_at (start_state header) history (length history) commands
+-- what some commands answer in turn, from a position on
+abbrev pub answers_at : Writing → Start → List Accepted → ℕ → List Command → List ℕ
+answers_at written start history at [] = []
+answers_at written start history at (command ∷ commands) = written start history at command ++ answers_at written start history (position_after history at command) commands
+
+-- what the commands of a text answer, of which the first is at the end of the schedule's history
+abbrev pub walk_answers : Writing → Header → List Step → List Command → List ℕ
+walk_answers written header steps commands =
+    let history = history_of (start_state header) [] steps in answers_at written (start_state header) history (length history) commands

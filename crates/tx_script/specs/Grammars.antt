@@ -1,7 +1,7 @@
 -- The texts that the program answers: schedules, and schedules with commands.
 use Rattle.std.specs.Prelude.{◌≡◌, List, ℕ, Result, Ok, Err, String, string_bytes}
 use Rattle.tx_base.specs.declared.steps.Step.{Step}
-use Rattle.tx_script.specs.Debug.{walk_answers}
+use Rattle.tx_script.specs.Debug.{command_answer, walk_answers}
 use Rattle.tx_script.specs.Report.{report_text}
 use Rattle.tx_lines.specs.Schedule.{schedule_text, FaultsBy, IsFaultOf, IsSchedule}
 use Rattle.tx_lines.specs.Walks.{walk_text, IsWalk, IsWalkFault}
@@ -32,7 +32,7 @@ walks = record {
   IsGood = λ spelled. IsWalk spelled.0 spelled.1 spelled.2;
   text = λ spelled. walk_text spelled.0 spelled.1 spelled.2;
   IsFault = IsWalkFault;
-  answer = λ spelled. walk_answers spelled.0 spelled.1 spelled.2;
+  answer = λ spelled. walk_answers command_answer spelled.0 spelled.1 spelled.2;
 }
 
 -- the answer to what a text spells, or means by another text, or the text's fault

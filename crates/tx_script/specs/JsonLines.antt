@@ -12,8 +12,10 @@ use Rattle.tx_model.specs.Answer.{answer}
 use Rattle.tx_model.specs.Schedules.{history_of, history_with}
 use Rattle.tx_model.specs.State.{State}
 use Rattle.tx_model.specs.View.{view}
-use Rattle.tx_script.specs.Debug.{command_answer, position_after, view_at}
+use Rattle.tx_script.specs.Debug.{command_answer, position_after, view_at, Writing}
 use Rattle.tx_script.specs.Report.{start_state}
+use Rattle.tx_script.specs.declared.forms.Form.{Form}
+use Rattle.tx_script.specs.declared.forms.Form.TheVariants.{Text, Json}
 
 -- a line: the JSON of its tokens, and a line's end
 abbrev pub line_of : List Token → List ℕ
@@ -37,10 +39,14 @@ abbrev pub command_line : State → List Accepted → ℕ → Command → List T
 command_line start history at commands.State = state_answer at (view_at start history at)
 command_line start history at command = lines_answer (position_after history at command) (command_answer start history at command)
 
--- what some commands answer in turn, from a position on
-unfoldable pub command_lines : State → List Accepted → ℕ → List Command → List (List Token)
-command_lines start history at [] = []
-command_lines start history at (command ∷ rest) = command_line start history at command ∷ command_lines start history (position_after history at command) rest
+-- that line
+abbrev pub json_answer : Writing
+json_answer start history at command = line_of (command_line start history at command)
+
+-- how a form writes what a command answers
+abbrev pub written_in : Form → Writing
+written_in Text = command_answer
+written_in Json = json_answer
 
 -- a schedule: the answer to each step in turn, and then the state of the history that all leave
 abbrev pub schedule_lines : Header → List Step → List (List Token)
@@ -48,10 +54,3 @@ schedule_lines header steps =
     let start = start_state header in
     let history = history_of start [] steps in
     step_lines start [] steps ++ command_line start history (length history) commands.State ∷ []
-
--- commands, of which the first stands at the end of the schedule's history
-abbrev pub walk_lines : Header → List Step → List Command → List (List Token)
-walk_lines header steps rest =
-    let start = start_state header in
-    let history = history_of start [] steps in
-    command_lines start history (length history) rest

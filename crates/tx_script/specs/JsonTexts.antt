@@ -9,7 +9,8 @@ use Rattle.tx_lines.specs.Walks.{walk_text, IsWalk, IsWalkFault}
 use Rattle.tx_lines.specs.declared.faults.Fault.{Fault}
 use Rattle.tx_lines.specs.declared.read.command.Command.{Command}
 use Rattle.tx_lines.specs.declared.read.header.Header.{Header}
-use Rattle.tx_script.specs.JsonLines.{schedule_lines, text_of, walk_lines}
+use Rattle.tx_script.specs.Debug.{walk_answers}
+use Rattle.tx_script.specs.JsonLines.{json_answer, schedule_lines, text_of}
 use Rattle.tx_script.specs.Grammars.{Grammar}
 
 -- a header and steps, and commands where the text has some
@@ -26,7 +27,7 @@ spelling header steps (Some commands) = walk_text header steps commands
 
 abbrev pub answer_of : Header → List Step → Option (List Command) → List ℕ
 answer_of header steps None = text_of (schedule_lines header steps)
-answer_of header steps (Some commands) = text_of (walk_lines header steps commands)
+answer_of header steps (Some commands) = walk_answers json_answer header steps commands
 
 -- a text with the line before commands is at fault as one with commands, and any other as a schedule
 abbrev pub IsFaultAs : Kind → List ℕ → Fault → Type 0

@@ -11,5 +11,6 @@ mod runs;
 mod steps;
 mod texts;
 
+pub use commands::put_line;
 pub use runs::run_lines;
 pub use texts::{json_text, write_json};

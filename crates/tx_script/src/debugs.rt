@@ -4,7 +4,8 @@ ghost use Rattle.tx_script.specs.Answered.{Answers};
 ghost use Rattle.tx_lines.specs.Ends.{IsFresh};
 ghost use Rattle.tx_script.specs.Grammars.{walks, AnswersText};
 
-use crate::walks::answer_walk;
+use crate::commands::answer_walk;
+use crate::forms::Form;
 use std::alloc::Global;
 use tx_lines::{Fault, Sink, Source, read_whole, write_whole};
 use tx_plain::read_walk;
@@ -30,5 +31,5 @@ pub fn debug_text(alloc: Global, text: &[u8]) -> Result<String, Fault>
     ensures { AnswersText walks text.now result }
 {
     let walk = read_walk(alloc, text)?;
-    answer_walk(alloc, &walk)
+    answer_walk(alloc, Form::Text, &walk)
 }

@@ -4,18 +4,21 @@
 //! one end, makes its steps on a machine and writes the replies and the state to the other. `debug`
 //! reads a schedule with commands, makes the steps in a session, and writes what the commands
 //! answer. `report` makes the steps and prints the line of each reply, by tx_text, and the state
-//! that the last one leaves, by tx_journal. `walks` makes the steps in a `Session`, does what each
-//! command says, and prints its answer, as `put_answer` does for one command. What a text of a kind
-//! spells, where it is at fault and what answers it is a `Grammar` of specs: `schedules` and `walks`
-//! are two, and one definition (`Answers`) says of both what is read and written. `replay` changes a
-//! kernel through `boot` and `step_into` alone, and takes no step back: each inverse is put in the
-//! place of the one before. `debug` does so through the calls of a session (`made.rt`). `write_json`
-//! answers both kinds of texts by lines of JSON, and `run_lines` a run. The ends, the faults and
-//! the programs of texts are given on from tx_lines and tx_plain.
+//! that the last one leaves, by tx_journal. `answer_walk` makes the steps in a `Session` (`made.rt`)
+//! and goes over the commands, in either form: as text, where `put_answer` (`walks.rt`) does what
+//! one command says and prints its answer, or as JSON (`as_json/`). What a text of a kind spells,
+//! where it is at fault and what answers it is a `Grammar` of specs: `schedules` and `walks` are
+//! two, and one definition (`Answers`) says of both what is read and written. `replay` changes a
+//! kernel only through `boot` and `step_into`, and takes no step back: each inverse is put in the
+//! place of the one before. `write_json` answers both kinds of texts by lines of JSON, and
+//! `run_lines` a run. The ends, the faults and the programs of texts are given on from tx_lines and
+//! tx_plain.
 #![tactic(auto)]
 
 mod as_json;
+mod commands;
 mod debugs;
+mod forms;
 mod machines;
 mod made;
 mod replays;
@@ -25,6 +28,7 @@ mod walks;
 pub use as_json::{json_text, run_lines, write_json};
 pub use debugs::{debug, debug_text};
 pub use machines::boot;
+pub use made::WORKER;
 pub use replays::{replay, replay_text};
 pub use reports::report;
 pub use tx_lines::{Fault, Flow, OverRead, OverWrite, Program, Sink, Source};

@@ -14,8 +14,8 @@ use tx_base::{Reply, Step};
 use tx_journal::Session;
 use tx_lines::{Fault, Schedule};
 
-/// The worker that makes the steps of a schedule.
-const WORKER: u16 = 1;
+/// The worker that makes the steps of a schedule, and of a session.
+pub const WORKER: u16 = 1;
 
 /// A session in which the steps of a schedule are made, with room to walk over them. The only fault is
 /// `NoMemory`.

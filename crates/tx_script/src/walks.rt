@@ -1,55 +1,15 @@
-//! Walks over the steps of a schedule as commands say, and prints what each command answers.
-ghost use Rattle.std.specs.Prelude.{◌≡◌, ◌≤◌, ◌++◌, [], IfErr, IfOk, OnErr, OnOk, length, string_bytes};
+//! Does what a command of the debugger says, and prints what it answers.
+ghost use Rattle.std.specs.Prelude.{◌≡◌, ◌≤◌, ◌++◌, IfErr, OnErr, OnOk, length, string_bytes};
 ghost use Rattle.tx_journal.specs.Entries.{history_of};
 ghost use Rattle.tx_journal.specs.Moved.{moved_at};
-ghost use Rattle.tx_journal.specs.Sessions.{position_of, start_of, IsAtEnd, IsBetween, SameBoot, SameJournal};
-ghost use Rattle.tx_model.specs.Answer.{answer};
-ghost use Rattle.tx_model.specs.Schedules.{history_with, history_of as history_after};
-ghost use Rattle.tx_model.specs.View.{view};
-ghost use Rattle.tx_script.specs.Debug.{answers_at, command_answer, moved_text, position_after, position_text, told_text, view_at, walk_answers};
-ghost use Rattle.tx_lines.specs.Lines.{FitsHeader};
+ghost use Rattle.tx_journal.specs.Sessions.{position_of, start_of, IsBetween, SameJournal};
+ghost use Rattle.tx_script.specs.Debug.{command_answer, moved_text, position_after, position_text, told_text};
 ghost use Rattle.tx_lines.specs.declared.faults.Fault.TheVariants.{NoMemory};
 ghost use Rattle.tx_lines.specs.declared.read.command.Command.TheVariants as command;
-ghost use Rattle.tx_text.specs.State.{state_text};
 
-use crate::made::walked;
 use std::alloc::{AllocError, Global};
 use tx_journal::{AtStart, ForwardFault, GotoFault, Moved, MovedFault, Session, put_state};
-use tx_lines::{Command, Fault, Walk, put, put_count, put_numbers};
-
-/// What the commands answer in turn, once the steps of the schedule are made. The only fault is
-/// `NoMemory`.
-pub fn answer_walk(alloc: Global, walk: &Walk) -> Result<String, Fault>
-    requires { FitsHeader walk.now.schedule.header }
-    ensures text { IfOk result (λ text.
-        string_bytes text ≡ walk_answers walk.now.schedule.header walk.now.schedule.steps.items
-        walk.now.commands.items) }
-    ensures fault { IfErr result (λ fault. fault ≡ NoMemory) }
-{
-    let mut session = walked(alloc, &walk.schedule)?;
-    let mut text = String::new(alloc);
-    put_answers(alloc, &mut text, &mut session, walk.commands.as_slice())?;
-    Ok(text)
-}
-
-/// Appends what the commands answer in turn.
-fn put_answers(
-    alloc: Global,
-    text: &mut String,
-    session: &mut Session,
-    commands: &[Command],
-) -> Result<(), Fault>
-    ensures text { OnOk result
-        (string_bytes text.new ≡ string_bytes text.old
-        ++ answers_at (start_of session.old) (history_of session.old.entries)
-        (position_of session.old) commands.now) }
-    ensures fault { IfErr result (λ fault. fault ≡ NoMemory) }
-{
-    for command in commands {
-        put_answer(alloc, text, session, *command)?;
-    }
-    Ok(())
-}
+use tx_lines::{Command, Fault, put, put_count, put_numbers};
 
 /// Does what a command says, and appends what it answers. The only fault is `NoMemory`: the position is
 /// then the old one, or lies between that and the one to which the command leads, and the text may

@@ -10,13 +10,13 @@ ghost use Rattle.tx_model.specs.Schedules.{history_with, history_of as history_a
 ghost use Rattle.tx_model.specs.View.{view};
 ghost use Rattle.tx_script.specs.JsonLines.{line_of, schedule_lines, step_lines, text_of};
 
-use crate::as_json::commands::put_answer;
+use crate::as_json::commands::put_state;
 use crate::made::make_step;
 use std::alloc::Global;
 use tx_base::{Reply, Step};
 use tx_journal::Session;
 use tx_json::put_step_answer;
-use tx_lines::{Command, Fault, Schedule, put};
+use tx_lines::{Fault, Schedule, put};
 
 /// A line for what each step of a schedule is answered, and one for the state after the last. The only
 /// fault is `NoMemory`.
@@ -30,7 +30,7 @@ pub fn schedule_lines(alloc: Global, schedule: &Schedule) -> Result<String, Faul
     session.reserve(schedule.steps.len())?;
     let mut text = String::new(alloc);
     put_replies(alloc, &mut text, &mut session, schedule.steps.as_slice())?;
-    put_answer(alloc, &mut text, &mut session, Command::State)?;
+    put_state(alloc, &mut text, &session)?;
     Ok(text)
 }
 

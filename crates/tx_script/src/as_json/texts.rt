@@ -8,8 +8,9 @@ ghost use Rattle.tx_script.specs.Answered.{Answers};
 ghost use Rattle.tx_script.specs.JsonTexts.{texts};
 ghost use Rattle.tx_script.specs.Grammars.{AnswersText};
 
-use crate::as_json::commands::walk_lines;
 use crate::as_json::steps::schedule_lines;
+use crate::commands::answer_walk;
+use crate::forms::Form;
 use std::alloc::Global;
 use tx_check::{Kind, kind_of};
 use tx_lines::{Fault, Sink, Source, read_whole, write_whole};
@@ -52,7 +53,7 @@ fn walk_text(alloc: Global, text: &[u8]) -> Result<String, Fault>
     ensures { AnswersText texts text.now result }
 {
     let walk = read_walk(alloc, text)?;
-    walk_lines(alloc, &walk)
+    answer_walk(alloc, Form::Json, &walk)
 }
 
 /// What the steps of a text are answered, and the state that they leave.

@@ -10,10 +10,8 @@ use std::alloc::{AllocError, Global};
 use tx_base::{ABORTED_BY_CALL, NoMemory, Reply, Step};
 use tx_journal::Session;
 use tx_lines::put;
+use tx_script::WORKER;
 use tx_text::put_named_reply;
-
-/// The worker that makes the steps.
-pub const WORKER: u16 = 1;
 
 /// Makes a step at the end of the journal, puts its reply where it is to stand, and the line of that in place
 /// of what the text had. Elsewhere it is not made, and both ways out are named. A step that is accepted is

@@ -5,11 +5,11 @@ ghost use Rattle.tx_shell.specs.Journals.{by_number};
 ghost use Rattle.tx_shell.specs.Members.{steps_member, step_tokens, tokens_between};
 ghost use Rattle.tx_shell.specs.Places.{place_of};
 
-use crate::answers::steps::WORKER;
 use std::alloc::{AllocError, Global};
 use tx_journal::{Entry, Session};
 use tx_json::{LineWriter, begin_list, end_list, put_entry};
 use tx_lines::put_step;
+use tx_script::WORKER;
 
 /// Appends the steps of those numbers, as a list.
 pub fn put_steps(

@@ -9,8 +9,8 @@ use Rattle.tx_script.proofs.as_json.texts.walk_text.Goals as goal
 pub returns : goal.returns
 returns c =
     let walk = c.in_ok-walk.walk in
-    answers_text c.args.text.now (walk.schedule.header, walk.schedule.steps.items, Some walk.commands.items) c.walk_lines.result c.in_ok-walk.ensures.0 c.in_ok-walk.ensures.1
-    c.walk_lines.ensures.text c.walk_lines.ensures.fault
+    answers_text c.args.text.now (walk.schedule.header, walk.schedule.steps.items, Some walk.commands.items) c.answer_walk.result c.in_ok-walk.ensures.0 c.in_ok-walk.ensures.1
+    c.answer_walk.ensures.text c.answer_walk.ensures.fault
 
 pub returns-in_err-walk : goal.returns-in_err-walk
 returns-in_err-walk c =
