@@ -13,6 +13,7 @@ use tx_lines::{dash, put, put_count, put_member, put_number};
 
 /// Appends the lines of a starter's live transaction, with what it holds: none where the process has
 /// begun none. It goes over the members once for each of the two lists.
+#[inline(always)] // each number up to the width asks it, and few have begun one
 pub fn put_txn_lines(
     text: &mut String,
     marks: &Slots<Mark>,
