@@ -6,4 +6,3 @@ pub mod NumberedLines
 pub mod Reached
 pub mod Turned
 pub mod Unoffered
-pub mod Written

@@ -1,9 +1,7 @@
 -- What lies under the lock after a turn.
-use Rattle.std.proofs.Common.{◌≡◌, ℕ, ◌+◌, ◌-◌, ◌≤◌, ◌++◌, List, Option, Some, length, map, All, take, arith, ap, sym, subst, ◌∙◌, length-append}
-use Rattle.std.proofs.Math.Seq.{take-append_seam}
-use Rattle.std.proofs.lemmas.List.{length-map}
-use Rattle.tx_base.specs.declared.steps.Accepted.{Accepted}
-use Rattle.tx_journal.specs.Entries.{accepted_of, history_of}
+use Rattle.std.proofs.Common.{◌≡◌, ℕ, ◌+◌, ◌-◌, ◌≤◌, ◌++◌, List, Option, Some, length, All, drop, take, arith, ap, sym, subst, ◌∙◌, length-append}
+use Rattle.std.proofs.Math.Seq.{drop-append_seam, take-append_seam}
+use Rattle.tx_journal.specs.Entries.{history_of}
 use Rattle.tx_journal.specs.Sessions.{start_of, IsAtEnd, SessionState, SameBoot}
 use Rattle.tx_journal.specs.declared.entry.Entry.{Entry}
 use Rattle.tx_live.specs.Content.{view_of}
@@ -38,15 +36,7 @@ desk_turned run given program old new worker next total count desk is after entr
       boot sum);
 }
 
--- a turn is noted by one note more at most
-pub few_more : (program : Program) (session : SessionState) (worker : ℕ) (next : Option ℕ) (before after : List Accepted) → after ≡ before ++ map accepted_of (added_by program session worker next)
-    → length after ≤ length before + 1
-few_more program session worker next before after notes =
-    let adds : List Entry = added_by program session worker next in
-    let few : length adds ≤ 1 = one_is_few worker adds (turn_is_one program.instructions.items (view_of session.machine) worker next) in
-    omega (arith, few, length-map adds accepted_of, ap length notes, length-append before (map accepted_of adds))
-
--- nor has the session more than one entry more
+-- after a turn the session has one entry more at most
 pub few_entries : (program : Program) (session new : SessionState) (worker : ℕ) (next : Option ℕ) → new.entries ≡ session.entries ++ added_by program session worker next
     → length new.entries ≤ length session.entries + 1
 few_entries program session new worker next entries =
@@ -59,3 +49,7 @@ pub front_within : (top count : ℕ) (session new : SessionState) (adds : List E
     → All (λ entry. IsWithin top entry.step) (take count new.entries)
 front_within top count session new adds has entries is =
     subst (All (λ entry. IsWithin top entry.step)) (sym (ap (take count) entries ∙ (λ j. take (is j) (session.entries ++ adds)) ∙ take-append_seam session.entries adds)) has.made
+
+-- what was added are the last ones
+pub last_added : (count : ℕ) (session new : SessionState) (adds : List Entry) → new.entries ≡ session.entries ++ adds → count ≡ length session.entries → drop count new.entries ≡ adds
+last_added count session new adds entries is = ap (drop count) entries ∙ (λ j. drop (is j) (session.entries ++ adds)) ∙ drop-append_seam session.entries adds

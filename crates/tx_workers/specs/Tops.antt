@@ -1,10 +1,9 @@
 -- Up to which number processes are there. Own rules.
-use Rattle.std.specs.Prelude.{◌≡◌, ◌⊎◌, ℕ, ◌<◌, ◌≤◌, false, All, None}
+use Rattle.std.specs.Prelude.{◌≡◌, ℕ, ◌<◌, ◌≤◌, false, All, None}
 use Rattle.tx_base.specs.declared.steps.Call.TheVariants.{Fork}
 use Rattle.tx_base.specs.declared.steps.Step.{Step}
 use Rattle.tx_base.specs.declared.steps.Step.TheVariants.{Call as Calls}
 use Rattle.tx_journal.specs.Sessions.{SessionState}
-use Rattle.tx_live.specs.Content.{view_of}
 use Rattle.tx_model.specs.Answer.{is_running}
 use Rattle.tx_model.specs.State.{State}
 use Rattle.tx_model.specs.View.{View, present}
@@ -26,7 +25,3 @@ IsWithin top step = Unit {0}
 pub record HasTop (top : ℕ) (session : SessionState) : Type 0 where
   pub booted : session.count ≤ top
   pub made : All (λ entry. IsWithin top entry.step) session.entries
-
--- it has, or there are no such numbers
-abbrev pub IsTop : ℕ → SessionState → Type 0
-IsTop top session = HasTop top session ⊎ ((view_of session.machine).table.width ≤ top)

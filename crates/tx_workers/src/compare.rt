@@ -1,49 +1,46 @@
-//! Whether workers noted just what the journal has of them.
+//! Whether workers kept just the places that the journal has of them.
 ghost use Rattle.std.specs.Prelude.{◌≡◌, All, IsTrue};
-ghost use Rattle.tx_journal.specs.Entries.{accepted_of};
-ghost use Rattle.tx_workers.specs.Teams.{notes_of};
+ghost use Rattle.tx_workers.specs.Teams.{places_of};
 
-use crate::same::{same_reply, same_step};
-use crate::worker::Worker;
-use tx_base::Accepted;
+use crate::runner::Runner;
 use tx_journal::Entry;
 
-/// Whether each worker noted just what the journal has of it, in order.
-pub fn are_noted(added: &[Entry], workers: &[Worker]) -> bool
-    ensures { IsTrue result → All (λ w. w.notes.items ≡ notes_of w.number added.now) workers.now }
+/// Whether each worker kept just the places of the entries that are its own, in order, of those which the
+/// journal has after so many.
+pub fn are_noted(added: &[Entry], start: usize, runners: &[Runner]) -> bool
+    ensures { IsTrue result →
+        All (λ runner. runner.made.items ≡ places_of runner.number start added.now) runners.now }
 {
-    for worker in workers {
-        if !is_noted(added, worker.number, worker.notes.as_slice()) {
+    for runner in runners {
+        if !is_noted(added, start, runner.number, runner.made.as_slice()) {
             return false;
         }
     }
     true
 }
 
-/// Whether these are the notes of the entries of the worker of that number, in order.
-fn is_noted(added: &[Entry], number: u16, notes: &[Accepted]) -> bool
-    ensures { IsTrue result → notes.now ≡ notes_of number added.now }
+/// Whether these are the places of the entries of the worker of that number, in order.
+fn is_noted(added: &[Entry], start: usize, number: u16, made: &[usize]) -> bool
+    ensures { IsTrue result → made.now ≡ places_of number start added.now }
 {
-    let mut rest = notes;
+    let mut rest = made;
     let mut left = added;
+    let mut place = start;
     while let Some((entry, later)) = left.split_first() {
+        let Some(next) = place.checked_add(1) else {
+            return false; // no journal is so long
+        };
         if entry.worker == number {
             let Some((first, others)) = rest.split_first() else {
                 return false;
             };
-            if !is_note_of(first, entry) {
+            if *first != place {
                 return false;
             }
             rest = others;
         }
         left = later;
+        place = next;
     }
     rest.is_empty()
-}
-
-/// Whether the note is of that entry.
-fn is_note_of(note: &Accepted, entry: &Entry) -> bool
-    ensures { IsTrue result → note.now ≡ accepted_of entry.now }
-{
-    same_step(&note.step, &entry.step) && same_reply(&note.reply, &entry.reply)
 }

@@ -8,9 +8,9 @@ use crate::desk::Work;
 use crate::faults::WorkFault;
 use crate::floor::{Floor, Post};
 use crate::gate::Gate;
+use crate::runner::Runner;
 use crate::service::{Served, Service};
 use crate::team::{Team, joined};
-use crate::worker::Worker;
 use std::sync::Wait;
 use std::sync::ledger::Share;
 use std::thread::{Scope, Threads};
@@ -49,18 +49,18 @@ where
     requires taken { station.hand.taken ≡ [] }
     ensures queue { IfOk result (λ crew. IsStationOf queue.now crew.station) }
     ensures crew { IfOk result (λ crew.
-        IsCrewOf post.number post.turns floor.now.total floor.now.processes crew.team.workers.items
+        IsCrewOf post.number post.turns floor.now.total floor.now.processes crew.team.runners.items
         crew.team.share.parts crew.team.share.amount crew.station.hand) }
 {
     let (mut share, mut station) = (share, station);
     if post.number == 0 {
         let team = Team {
-            workers: Vec::new(floor.alloc),
+            runners: Vec::new(floor.alloc),
             share,
         };
         return Ok(Crew { team, station });
     }
-    let worker = Worker::new(floor.alloc, post.number, floor.total);
+    let runner = Runner::new(floor.alloc, post.number, floor.total);
     let theirs = share.split_off(1, 0);
     let at = queue.another(&mut station);
     let started = scope.spawn_with(
@@ -68,16 +68,16 @@ where
         move || -> Served<J>
             requires program { J.program ≡ Some floor.now.program.now }
             requires processes { floor.now.processes ≤ 256 }
-            requires number { worker.number ≡ post.number }
-            requires notes { worker.notes.items ≡ [] }
+            requires number { runner.number ≡ post.number }
+            requires made { runner.made.items ≡ [] }
             requires part { theirs.parts ≡ 1 }
             requires none { theirs.amount ≡ 0 }
             requires queue { IsStationOf queue.now at }
             requires begins { at.hand ≡ begins }
             ensures queue { IsStationOf queue.entry.now result.station }
-            ensures service { IsService post.number post.turns result.done.worker
+            ensures service { IsService post.number post.turns result.done.runner
                 result.done.share.parts result.done.share.amount result.station.hand }
-        { floor.serve(queue, post, worker, theirs, at) },
+        { floor.serve(queue, post, runner, theirs, at) },
     );
     let Ok(handle) = started else {
         return Err(WorkFault::Spawn);
@@ -100,13 +100,13 @@ fn together<J: Work, R, G>(
     requires others { IfOk others (λ crew. IsStationOf queue.now crew.station) }
     requires crew { IfOk others (λ crew.
         IsCrewOf (post.number - 1) post.turns floor.now.total floor.now.processes
-        crew.team.workers.items crew.team.share.parts crew.team.share.amount crew.station.hand) }
+        crew.team.runners.items crew.team.share.parts crew.team.share.amount crew.station.hand) }
     requires served { IsStationOf queue.now served.station }
-    requires service { IsService post.number post.turns served.done.worker served.done.share.parts
+    requires service { IsService post.number post.turns served.done.runner served.done.share.parts
         served.done.share.amount served.station.hand }
     ensures queue { IfOk result (λ crew. IsStationOf queue.now crew.station) }
     ensures crew { IfOk result (λ crew.
-        IsCrewOf post.number post.turns floor.now.total floor.now.processes crew.team.workers.items
+        IsCrewOf post.number post.turns floor.now.total floor.now.processes crew.team.runners.items
         crew.team.share.parts crew.team.share.amount crew.station.hand) }
 {
     let Served { done, station: at } = served;

@@ -1,12 +1,13 @@
 //! What lies under the lock.
-ghost use Rattle.std.specs.Prelude.{◌≡◌, ◌+◌, ◌<◌, ◌≤◌, IfOk, Some, vec_len};
+ghost use Rattle.std.specs.Prelude.{◌≡◌, ◌+◌, ◌<◌, ◌≤◌, ◌++◌, ◌∷◌, [], IfOk, OnOk, Some, length, vec_len};
 ghost use Rattle.tx_journal.specs.Sessions.{IsAtEnd};
 ghost use Rattle.tx_workers.specs.Desks.{IsDesk};
 ghost use Rattle.tx_workers.specs.declared.turns.Took.TheVariants.{Idle};
 
+use crate::next::next_process;
+use crate::runner::Runner;
 use crate::tops::{top_after, top_of};
-use crate::turns::{Took, turn_of, turn_up_to};
-use crate::worker::Worker;
+use crate::turns::{Took, make_turn};
 use std::alloc::Global;
 use std::marker::{Brand, Model};
 use std::sync::ledger::{Book, Ledger, Share};
@@ -72,30 +73,32 @@ impl<J: Work> Desk<J> {
         }
     }
 
-    /// A turn of a worker, whose share counts what it adds.
+    /// A turn of a worker, whose share counts what it adds: that of its next running process.
     pub fn turn(
         &mut self,
         alloc: Global,
         program: &Program,
-        worker: &mut Worker,
+        runner: &mut Runner,
         share: &mut Share<J>,
     ) -> Result<(), NoMemory>
         requires program { J.program ≡ Some program.now }
         requires part { 0 < share.old.parts }
-        requires low { 1 ≤ worker.old.number }
-        requires high { worker.old.number ≤ worker.old.total }
-        ensures counted { share.new.amount + vec_len worker.old.notes
-            ≡ share.old.amount + vec_len worker.new.notes }
+        requires low { 1 ≤ runner.old.number }
+        requires high { runner.old.number ≤ runner.old.total }
+        ensures counted { share.new.amount + vec_len runner.old.made
+            ≡ share.old.amount + vec_len runner.new.made }
         ensures parts { share.new.parts ≡ share.old.parts }
-        ensures number { worker.new.number ≡ worker.old.number }
-        ensures total { worker.new.total ≡ worker.old.total }
-        ensures few { vec_len worker.new.notes ≤ vec_len worker.old.notes + 1 }
+        ensures number { runner.new.number ≡ runner.old.number }
+        ensures total { runner.new.total ≡ runner.old.total }
+        ensures few { vec_len runner.new.made ≤ vec_len runner.old.made + 1 }
     {
-        let before = self.session.len();
-        turn_up_to(alloc, &mut self.session, worker, program, self.top)?;
-        let after = self.session.len();
-        self.added.add(share, (after - before) as u64);
-        self.top = top_after(&self.session, before, self.top);
+        let machine = self.session.machine();
+        let Some(pid) = next_process(machine, runner.number, runner.total, runner.last, self.top)
+        else {
+            return Ok(());
+        };
+        self.turn_of(alloc, program, pid, runner, share)?;
+        runner.last = pid.0;
         Ok(())
     }
 
@@ -105,24 +108,29 @@ impl<J: Work> Desk<J> {
         alloc: Global,
         program: &Program,
         pid: Pid,
-        worker: &mut Worker,
+        runner: &mut Runner,
         share: &mut Share<J>,
     ) -> Result<Took, NoMemory>
         requires program { J.program ≡ Some program.now }
         requires part { 0 < share.old.parts }
-        ensures counted { share.new.amount + vec_len worker.old.notes
-            ≡ share.old.amount + vec_len worker.new.notes }
+        ensures counted { share.new.amount + vec_len runner.old.made
+            ≡ share.old.amount + vec_len runner.new.made }
         ensures parts { share.new.parts ≡ share.old.parts }
-        ensures number { worker.new.number ≡ worker.old.number }
-        ensures few { vec_len worker.new.notes ≤ vec_len worker.old.notes + 1 }
+        ensures number { runner.new.number ≡ runner.old.number }
+        ensures total { runner.new.total ≡ runner.old.total }
+        ensures few { vec_len runner.new.made ≤ vec_len runner.old.made + 1 }
+        ensures made { OnOk result (length self.old.0.entries < length self.new.0.entries →
+            runner.new.made.items ≡ runner.old.made.items ++ length self.old.0.entries ∷ []) }
         ensures idle { IfOk result (λ took.
-            took ≡ Idle → vec_len worker.new.notes ≡ vec_len worker.old.notes) }
+            took ≡ Idle → vec_len runner.new.made ≡ vec_len runner.old.made) }
     {
+        runner.made.reserve(1)?;
         let before = self.session.len();
-        let took = turn_of(alloc, &mut self.session, worker, program, pid)?;
+        let took = make_turn(alloc, &mut self.session, runner.number, program, pid)?;
         let after = self.session.len();
         self.added.add(share, (after - before) as u64);
         self.top = top_after(&self.session, before, self.top);
+        runner.note(before, after);
         Ok(took)
     }
 

@@ -4,7 +4,7 @@ ghost use Rattle.tx_workers.specs.Teams.{IsWorkOf};
 
 use crate::desk::{Desk, Work};
 use crate::gate::Gate;
-use crate::worker::Worker;
+use crate::runner::Runner;
 use std::alloc::Global;
 use std::sync::ledger::Share;
 use std::sync::{Mutex, Wait};
@@ -15,7 +15,7 @@ use tx_lines::Program;
 /// What a worker's thread gives back.
 #[derive(Drop)]
 pub struct Done<J: Work> {
-    pub worker: Worker,
+    pub runner: Runner,
     pub share: Share<J>,
     pub made: Result<(), NoMemory>,
 }
@@ -44,7 +44,7 @@ impl Post {
 impl<J: Work> Promise<Done<J>> for Post {
     ghost use Rattle.tx_workers.specs.Teams.{IsWorkOf};
 
-    ghost kept_by = { λ post done. IsWorkOf post.number post.turns done.worker done.share.parts
+    ghost kept_by = { λ post done. IsWorkOf post.number post.turns done.runner done.share.parts
         done.share.amount };
 }
 
@@ -64,32 +64,32 @@ pub struct Floor<'s, J: Work, R, G> {
 
 impl<'s, J: Work, R: Wait, G: Gate> Floor<'s, J, R, G> {
     /// Makes the turns of a worker, until one wants memory.
-    pub fn work(&self, post: Post, worker: Worker, share: Share<J>) -> Done<J>
+    pub fn work(&self, post: Post, runner: Runner, share: Share<J>) -> Done<J>
         requires program { J.program ≡ Some self.now.program.now }
-        requires number { worker.number ≡ post.number }
-        requires low { 1 ≤ worker.number }
-        requires high { worker.number ≤ worker.total }
-        requires notes { worker.notes.items ≡ [] }
+        requires number { runner.number ≡ post.number }
+        requires low { 1 ≤ runner.number }
+        requires high { runner.number ≤ runner.total }
+        requires made { runner.made.items ≡ [] }
         requires part { share.parts ≡ 1 }
         requires none { share.amount ≡ 0 }
-        ensures { IsWorkOf post.number post.turns result.worker result.share.parts
+        ensures { IsWorkOf post.number post.turns result.runner result.share.parts
             result.share.amount }
     {
-        let (mut worker, mut share) = (worker, share);
+        let (mut runner, mut share) = (runner, share);
         let mut made = Ok(());
         for before in 0..post.turns {
             self.gate.enter(post.number, before + 1);
             made = self
                 .desk
                 .lock(self.rt)
-                .turn(self.alloc, self.program, &mut worker, &mut share);
+                .turn(self.alloc, self.program, &mut runner, &mut share);
             self.gate.leave(post.number, before + 1);
             if made.is_err() {
                 break;
             }
         }
         Done {
-            worker,
+            runner,
             share,
             made,
         }

@@ -5,10 +5,11 @@
 //! a process: `named.rt` says which step the program names for it, with the signals that are
 //! offered by `offers.rt`, and `turns.rt` makes it in the session. What there is to say of it is
 //! defined over the view: `offered`, `named`, `turn_adds`, `next_process`. So the contract of a
-//! turn speaks of no code, and what a turn adds can be told from the journal before it. Room for
-//! the worker's note is made before the step. After the reply that the transaction is doomed the
-//! kernel's abort is a step like another, whose answer on the view says whether there is anything
-//! to abort.
+//! turn speaks of no code, and what a turn adds can be told from the journal before it. `make_turn`
+//! notes nothing: its callers find the entry at the end of the journal. `turn_of` notes a copy of it,
+//! a run its place. Room for the note is made before the step. After the reply that the transaction is
+//! doomed the kernel's abort is a step like another, whose answer on the view says whether there is
+//! anything to abort.
 //!
 //! A run has a `Desk` (`desk.rt`) under a `Mutex`: the session, and the book of a ledger. Each
 //! worker has a share of the ledger, and a turn at the desk adds to the share how many entries it
@@ -24,12 +25,14 @@
 //!
 //! `run_workers` (`run.rt`, `team.rt`, `floor.rt`) starts workers by recursion: a call for n workers
 //! splits off a part of its share, starts one worker with it, calls itself for n - 1, and joins.
-//! What a worker gives back, its share and its notes, is promised by its `Post`. With all parts
-//! again the book is audited, so that as many entries were added as the shares count. `checked`
-//! compares each worker's notes with the entries of its number (`results.rt`, `compare.rt`, `same.rt`).
-//! `run_queue` (`ready.rt`, `crew.rt`, `service.rt`) does the same with a station beside the share.
-//! `run_from` (`whole.rt`) reads a program and runs it by `run_workers`, and `run_program` writes such
-//! a run (`text.rt`). A `Gate` is told of each turn before the lock is taken and after it is let go; by
+//! In a run a worker is a `Runner` (`runner.rt`), which keeps the places of its entries in the journal.
+//! What it gives back, its share and these places, is promised by its `Post`. With all parts again the
+//! book is audited, so that as many entries were added as the shares count. `checked` compares the
+//! places with those of the entries of its number (`results.rt`, `compare.rt`), and `noted` makes the
+//! workers of these, with notes that are copies of their entries. `run_queue` (`ready.rt`, `crew.rt`,
+//! `service.rt`) does the same with a station beside the share. `run_from` (`whole.rt`) reads a program
+//! and runs it without notes, since its caller has the session alone, and `run_program` writes such a
+//! run (`text.rt`). A `Gate` is told of each turn before the lock is taken and after it is let go; by
 //! it tests say in which order turns are taken.
 
 mod compare;
@@ -44,7 +47,7 @@ mod offers;
 mod ready;
 mod results;
 mod run;
-mod same;
+mod runner;
 mod service;
 mod team;
 mod text;

@@ -3,15 +3,16 @@ ghost use Rattle.std.specs.Prelude.{◌≡◌, ◌+◌, ◌≤◌, [], length, I
 ghost use Rattle.tx_journal.specs.Sessions.{IsAtEnd};
 ghost use Rattle.tx_ready.specs.Hands.{HoldsEach};
 ghost use Rattle.tx_ready.specs.Stations.{IsStationOf};
-ghost use Rattle.tx_workers.specs.Runs.{IsWorked};
+ghost use Rattle.tx_workers.specs.Runs.{IsOutcome, IsWorked};
 ghost use Rattle.tx_workers.specs.Services.{IsCrewOf, IsTallied};
+ghost use Rattle.tx_workers.specs.Teams.{made, noted};
 
 use crate::crew::{Crew, serve_down};
 use crate::desk::{Desk, Work};
 use crate::faults::WorkFault;
 use crate::floor::{Floor, Post};
 use crate::gate::Gate;
-use crate::results::{Worked, checked};
+use crate::results::{Outcome, Worked, checked};
 use std::alloc::Global;
 use std::marker::Brand;
 use std::sync::ledger::{Blank, Share};
@@ -40,14 +41,18 @@ pub fn run_queue<R: Threads + Wait + Sync, G: Gate + Sync>(
     requires { IsAtEnd session }
     ensures worked { IfOk result (λ both.
         IsWorked program.now session workers turns both.0.session both.0.workers.items) }
-    ensures tallied { IfOk result (λ both. IsTallied session.width both.0.workers.items both.1) }
+    ensures tallied { IfOk result (λ both. IsTallied session.width (noted both.0.workers.items) both.1) }
 {
     let post = Post {
         number: workers,
         turns,
     };
     let blank = Blank::new(u64::from(workers) + 1);
-    serve_named::<Brand, R, G>(rt, alloc, blank, session, program, post, gate)
+    let start = session.len();
+    let (outcome, tally) = serve_named::<Brand, R, G>(
+        rt, alloc, blank, session, program, post, gate,
+    )?;
+    Ok((outcome.noted(alloc, start)?, tally))
 }
 
 /// The run, under a name that its lock and its ledger are known by.
@@ -59,16 +64,17 @@ fn serve_named<J: Work + Send + Sync, R: Threads + Wait + Sync, G: Gate + Sync>(
     program: &Program,
     post: Post,
     gate: &G,
-) -> Result<(Worked, Tally), WorkFault>
+) -> Result<(Outcome, Tally), WorkFault>
     requires name { blank.name ≡ J.name }
     requires parts { blank.parts ≡ J.parts }
     requires enough { blank.parts ≡ post.number + 1 }
     requires program { J.program ≡ Some program.now }
     requires given { J.given ≡ Some session }
     requires at_end { IsAtEnd session }
-    ensures worked { IfOk result (λ both.
-        IsWorked program.now session post.number post.turns both.0.session both.0.workers.items) }
-    ensures tallied { IfOk result (λ both. IsTallied session.width both.0.workers.items both.1) }
+    ensures outcome { IfOk result (λ both.
+        IsOutcome program.now session post.number post.turns both.0.session both.0.runners.items) }
+    ensures tallied { IfOk result (λ both.
+        IsTallied session.width (made both.0.runners.items) both.1) }
 {
     let start = session.len();
     let processes = session.processes();
@@ -88,8 +94,8 @@ fn serve_named<J: Work + Send + Sync, R: Threads + Wait + Sync, G: Gate + Sync>(
     };
     let Crew { team, station } = serve_scoped(&floor, &queue, post, share, station)?;
     let tally = queue.close(rt, station);
-    let worked = checked(desk, program, start, post, team)?;
-    Ok((worked, tally))
+    let outcome = checked(desk, program, start, post, team)?;
+    Ok((outcome, tally))
 }
 
 /// The workers from a number down to 1, when all have come back.
@@ -112,7 +118,7 @@ fn serve_scoped<J: Work + Send + Sync, R: Threads + Wait + Sync, G: Gate + Sync>
     requires taken { station.hand.taken ≡ [] }
     ensures queue { IfOk result (λ crew. IsStationOf queue.now crew.station) }
     ensures crew { IfOk result (λ crew.
-        IsCrewOf post.number post.turns floor.now.total floor.now.processes crew.team.workers.items
+        IsCrewOf post.number post.turns floor.now.total floor.now.processes crew.team.runners.items
         crew.team.share.parts crew.team.share.amount crew.station.hand) }
 {
     thread::scope(
@@ -132,7 +138,7 @@ fn serve_scoped<J: Work + Send + Sync, R: Threads + Wait + Sync, G: Gate + Sync>
             ensures queue { IfOk result (λ crew. IsStationOf queue.entry.now crew.station) }
             ensures crew { IfOk result (λ crew.
                 IsCrewOf post.number post.turns floor.entry.now.total floor.entry.now.processes
-                crew.team.workers.items crew.team.share.parts crew.team.share.amount
+                crew.team.runners.items crew.team.share.parts crew.team.share.amount
                 crew.station.hand) }
         { serve_down(scope, floor, queue, post, share, station) },
     )

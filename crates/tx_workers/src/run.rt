@@ -1,7 +1,7 @@
 //! A whole run of workers.
 ghost use Rattle.std.specs.Prelude.{◌≡◌, ◌+◌, ◌<◌, ◌≤◌, Err, IfOk, Some};
 ghost use Rattle.tx_journal.specs.Sessions.{IsAtEnd};
-ghost use Rattle.tx_workers.specs.Runs.{IsWorked};
+ghost use Rattle.tx_workers.specs.Runs.{IsOutcome, IsWorked};
 ghost use Rattle.tx_workers.specs.Teams.{IsTeam};
 ghost use Rattle.tx_workers.specs.declared.faults.WorkFault.TheVariants.{Spawn};
 
@@ -9,7 +9,7 @@ use crate::desk::{Desk, Work};
 use crate::faults::WorkFault;
 use crate::floor::{Floor, Post};
 use crate::gate::Gate;
-use crate::results::{Worked, checked};
+use crate::results::{Outcome, Worked, checked};
 use crate::team::{Team, run_down};
 use std::alloc::Global;
 use std::marker::Brand;
@@ -25,8 +25,8 @@ use tx_lines::Program;
 /// it. The gate is told of each turn before the lock is taken and after it is let go.
 ///
 /// `Spawn` where a thread could not be started, `NoMemory` where a growth is refused, `Strayed` where a
-/// worker noted something else than the journal has of it; of several the first of these. The session is
-/// gone after a fault.
+/// worker noted something else than the journal has of it; of several the first of these. Where the notes
+/// themselves want memory that is found last. The session is gone after a fault.
 pub fn run_workers<R: Threads + Wait + Sync, G: Gate + Sync>(
     rt: &R,
     alloc: Global,
@@ -39,6 +39,25 @@ pub fn run_workers<R: Threads + Wait + Sync, G: Gate + Sync>(
     requires { IsAtEnd session }
     ensures worked { IfOk result (λ worked.
         IsWorked program.now session workers turns worked.session worked.workers.items) }
+    ensures thread { result ≡ Err Spawn → 0 < workers }
+{
+    let start = session.len();
+    run_without_notes(rt, alloc, session, program, workers, turns, gate)?.noted(alloc, start)
+}
+
+/// The same, but that no notes are made.
+pub(crate) fn run_without_notes<R: Threads + Wait + Sync, G: Gate + Sync>(
+    rt: &R,
+    alloc: Global,
+    session: Session,
+    program: &Program,
+    workers: u16,
+    turns: u32,
+    gate: &G,
+) -> Result<Outcome, WorkFault>
+    requires { IsAtEnd session }
+    ensures outcome { IfOk result (λ outcome.
+        IsOutcome program.now session workers turns outcome.session outcome.runners.items) }
     ensures thread { result ≡ Err Spawn → 0 < workers }
 {
     let post = Post {
@@ -58,15 +77,15 @@ fn run_named<J: Work + Send + Sync, R: Threads + Wait + Sync, G: Gate + Sync>(
     program: &Program,
     post: Post,
     gate: &G,
-) -> Result<Worked, WorkFault>
+) -> Result<Outcome, WorkFault>
     requires name { blank.name ≡ J.name }
     requires parts { blank.parts ≡ J.parts }
     requires enough { blank.parts ≡ post.number + 1 }
     requires program { J.program ≡ Some program.now }
     requires given { J.given ≡ Some session }
     requires at_end { IsAtEnd session }
-    ensures worked { IfOk result (λ worked.
-        IsWorked program.now session post.number post.turns worked.session worked.workers.items) }
+    ensures outcome { IfOk result (λ outcome.
+        IsOutcome program.now session post.number post.turns outcome.session outcome.runners.items) }
     ensures thread { result ≡ Err Spawn → 0 < post.number }
 {
     let start = session.len();
@@ -97,7 +116,7 @@ fn run_scoped<J: Work + Send + Sync, R: Threads + Wait + Sync, G: Gate + Sync>(
     requires none { share.amount ≡ 0 }
     requires high { post.number ≤ floor.now.total }
     ensures team { IfOk result (λ team.
-        IsTeam post.number post.turns team.workers.items team.share.parts team.share.amount) }
+        IsTeam post.number post.turns team.runners.items team.share.parts team.share.amount) }
     ensures thread { result ≡ Err Spawn → 0 < post.number }
 {
     thread::scope(
@@ -109,7 +128,7 @@ fn run_scoped<J: Work + Send + Sync, R: Threads + Wait + Sync, G: Gate + Sync>(
             requires none { share.amount ≡ 0 }
             requires high { post.number ≤ floor.now.total }
             ensures team { IfOk result (λ team.
-                IsTeam post.number post.turns team.workers.items team.share.parts
+                IsTeam post.number post.turns team.runners.items team.share.parts
                 team.share.amount) }
             ensures thread { result ≡ Err Spawn → 0 < post.number }
         { run_down(scope, floor, post, share) },

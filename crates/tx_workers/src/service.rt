@@ -7,8 +7,8 @@ ghost use Rattle.tx_workers.specs.Services.{IsService};
 use crate::desk::Work;
 use crate::floor::{Done, Floor, Post};
 use crate::gate::Gate;
+use crate::runner::Runner;
 use crate::turns::Took;
-use crate::worker::Worker;
 use std::sync::Wait;
 use std::sync::ledger::Share;
 use std::thread::Promise;
@@ -35,7 +35,7 @@ impl<J: Work> Promise<Served<J>> for Service<'_> {
 
     ghost kept_by = { λ service served.
         IsStationOf service.queue.now served.station
-        × IsService service.post.number service.post.turns served.done.worker
+        × IsService service.post.number service.post.turns served.done.runner
         served.done.share.parts served.done.share.amount served.station.hand };
 }
 
@@ -45,34 +45,34 @@ impl<'s, J: Work, R: Wait, G: Gate> Floor<'s, J, R, G> {
         &self,
         queue: &ReadyQueue,
         post: Post,
-        worker: Worker,
+        runner: Runner,
         share: Share<J>,
         station: Station,
     ) -> Served<J>
         requires program { J.program ≡ Some self.now.program.now }
         requires processes { self.now.processes ≤ 256 }
-        requires number { worker.number ≡ post.number }
-        requires notes { worker.notes.items ≡ [] }
+        requires number { runner.number ≡ post.number }
+        requires made { runner.made.items ≡ [] }
         requires part { share.parts ≡ 1 }
         requires none { share.amount ≡ 0 }
         requires queue { IsStationOf queue.now station }
         requires begins { station.hand ≡ begins }
         ensures queue { IsStationOf queue.now result.station }
-        ensures service { IsService post.number post.turns result.done.worker
+        ensures service { IsService post.number post.turns result.done.runner
             result.done.share.parts result.done.share.amount result.station.hand }
     {
-        let (mut worker, mut share, mut station) = (worker, share, station);
+        let (mut runner, mut share, mut station) = (runner, share, station);
         let mut made = Ok(());
         for before in 0..post.turns {
             self.gate.enter(post.number, before + 1);
-            made = self.serve_turn(queue, &mut worker, &mut share, &mut station);
+            made = self.serve_turn(queue, &mut runner, &mut share, &mut station);
             self.gate.leave(post.number, before + 1);
             if made.is_err() {
                 break;
             }
         }
         let done = Done {
-            worker,
+            runner,
             share,
             made,
         };
@@ -84,7 +84,7 @@ impl<'s, J: Work, R: Wait, G: Gate> Floor<'s, J, R, G> {
     fn serve_turn(
         &self,
         queue: &ReadyQueue,
-        worker: &mut Worker,
+        runner: &mut Runner,
         share: &mut Share<J>,
         station: &mut Station,
     ) -> Result<(), NoMemory>
@@ -95,18 +95,18 @@ impl<'s, J: Work, R: Wait, G: Gate> Floor<'s, J, R, G> {
         requires back { GivesBack station.old.hand }
         requires room_put { length station.old.hand.put < 2 ^ 62 }
         requires room_taken { length station.old.hand.taken < 2 ^ 62 }
-        ensures counted { share.new.amount + vec_len worker.old.notes
-            ≡ share.old.amount + vec_len worker.new.notes }
+        ensures counted { share.new.amount + vec_len runner.old.made
+            ≡ share.old.amount + vec_len runner.new.made }
         ensures shares { share.new.parts ≡ share.old.parts }
-        ensures number { worker.new.number ≡ worker.old.number }
-        ensures few { vec_len worker.new.notes ≤ vec_len worker.old.notes + 1 }
+        ensures number { runner.new.number ≡ runner.old.number }
+        ensures few { vec_len runner.new.made ≤ vec_len runner.old.made + 1 }
         ensures queue { IsStationOf queue.now station.new }
         ensures parts { station.new.hand.parts ≡ station.old.hand.parts }
         ensures back { GivesBack station.new.hand }
         ensures few_put { length station.new.hand.put ≤ length station.old.hand.put + 256 }
         ensures few_taken { length station.new.hand.taken ≤ length station.old.hand.taken + 256 }
-        ensures enough { vec_len worker.new.notes + length station.old.hand.taken
-            ≤ vec_len worker.old.notes + length station.new.hand.taken }
+        ensures enough { vec_len runner.new.made + length station.old.hand.taken
+            ≤ vec_len runner.old.made + length station.new.hand.taken }
     {
         for _ in 0..self.processes {
             let Some(pid) = queue.take(self.rt, station) else {
@@ -115,7 +115,7 @@ impl<'s, J: Work, R: Wait, G: Gate> Floor<'s, J, R, G> {
             let took = self
                 .desk
                 .lock(self.rt)
-                .turn_of(self.alloc, self.program, pid, worker, share);
+                .turn_of(self.alloc, self.program, pid, runner, share);
             queue.give(self.rt, station, pid);
             if took? == Took::Ran {
                 break;

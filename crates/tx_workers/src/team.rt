@@ -1,13 +1,13 @@
 //! Workers in threads of their own, at one session under one lock.
 ghost use Rattle.std.specs.Prelude.{◌≡◌, ◌+◌, ◌-◌, ◌<◌, ◌≤◌, [], Err, IfErr, IfOk, IsErr, IsOk, Some, vec_len};
-ghost use Rattle.tx_workers.specs.Teams.{noted, IsTeam, IsWorkOf};
+ghost use Rattle.tx_workers.specs.Teams.{made, IsTeam, IsWorkOf};
 ghost use Rattle.tx_workers.specs.declared.faults.WorkFault.TheVariants.{NoMemory, Spawn};
 
 use crate::desk::Work;
 use crate::faults::WorkFault;
 use crate::floor::{Done, Floor, Post};
 use crate::gate::Gate;
-use crate::worker::Worker;
+use crate::runner::Runner;
 use std::sync::Wait;
 use std::sync::ledger::Share;
 use std::thread::{Scope, Threads};
@@ -15,7 +15,7 @@ use std::thread::{Scope, Threads};
 /// What some workers give back, with their shares put together.
 #[derive(Drop)]
 pub struct Team<J: Work> {
-    pub workers: Vec<Worker>,
+    pub runners: Vec<Runner>,
     pub share: Share<J>,
 }
 
@@ -39,31 +39,31 @@ where
     requires none { share.amount ≡ 0 }
     requires high { post.number ≤ floor.now.total }
     ensures team { IfOk result (λ team.
-        IsTeam post.number post.turns team.workers.items team.share.parts team.share.amount) }
+        IsTeam post.number post.turns team.runners.items team.share.parts team.share.amount) }
     ensures thread { result ≡ Err Spawn → 0 < post.number }
 {
     let mut share = share;
     if post.number == 0 {
         return Ok(Team {
-            workers: Vec::new(floor.alloc),
+            runners: Vec::new(floor.alloc),
             share,
         });
     }
-    let worker = Worker::new(floor.alloc, post.number, floor.total);
+    let runner = Runner::new(floor.alloc, post.number, floor.total);
     let theirs = share.split_off(1, 0);
     let started = scope.spawn_with(
         post,
         move || -> Done<J>
             requires program { J.program ≡ Some floor.now.program.now }
-            requires number { worker.number ≡ post.number }
-            requires low { 1 ≤ worker.number }
-            requires high { worker.number ≤ worker.total }
-            requires notes { worker.notes.items ≡ [] }
+            requires number { runner.number ≡ post.number }
+            requires low { 1 ≤ runner.number }
+            requires high { runner.number ≤ runner.total }
+            requires made { runner.made.items ≡ [] }
             requires part { theirs.parts ≡ 1 }
             requires none { theirs.amount ≡ 0 }
-            ensures { IsWorkOf post.number post.turns result.worker result.share.parts
+            ensures { IsWorkOf post.number post.turns result.runner result.share.parts
                 result.share.amount }
-        { floor.work(post, worker, theirs) },
+        { floor.work(post, runner, theirs) },
     );
     let Ok(handle) = started else {
         return Err(WorkFault::Spawn);
@@ -81,18 +81,18 @@ pub(crate) fn joined<J: Work>(
 ) -> Result<Team<J>, WorkFault>
     requires one { 0 < post.number }
     requires others { IfOk others (λ team.
-        IsTeam (post.number - 1) post.turns team.workers.items team.share.parts team.share.amount) }
-    requires done { IsWorkOf post.number post.turns done.worker done.share.parts done.share.amount }
+        IsTeam (post.number - 1) post.turns team.runners.items team.share.parts team.share.amount) }
+    requires done { IsWorkOf post.number post.turns done.runner done.share.parts done.share.amount }
     ensures team { IfOk result (λ team.
-        IsTeam post.number post.turns team.workers.items team.share.parts team.share.amount) }
-    ensures noted { IfOk others (λ team.
+        IsTeam post.number post.turns team.runners.items team.share.parts team.share.amount) }
+    ensures made { IfOk others (λ team.
         IfOk result (λ more.
-        noted more.workers.items ≡ noted team.workers.items + vec_len done.worker.notes)) }
+        made more.runners.items ≡ made team.runners.items + vec_len done.runner.made)) }
     ensures fault { IfErr others (λ fault. result ≡ Err fault) }
     ensures memory { IsOk others → IsErr done.made → result ≡ Err NoMemory }
 {
     let Done {
-        worker,
+        runner,
         share,
         made,
     } = done;
@@ -101,7 +101,7 @@ pub(crate) fn joined<J: Work>(
         return Err(WorkFault::NoMemory);
     }
     team.share.merge(share);
-    if team.workers.push(worker).is_err() {
+    if team.runners.push(runner).is_err() {
         return Err(WorkFault::NoMemory);
     }
     Ok(team)

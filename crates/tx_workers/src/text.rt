@@ -2,6 +2,7 @@
 ghost use Rattle.std.specs.Fmt.{decimal};
 ghost use Rattle.std.specs.Prelude.{◌≡◌, ◌++◌, ◌∷◌, [], IfErr, IfOk, OnOk, codes, string_bytes};
 ghost use Rattle.tx_lines.specs.Ends.{IsFresh};
+ghost use Rattle.tx_text.specs.Replies.{reply_text};
 ghost use Rattle.tx_workers.specs.RunText.{WritesText, entry_line, numbered, run_line, run_text};
 ghost use Rattle.tx_lines.specs.declared.faults.Fault.TheVariants.{NoMemory};
 
@@ -62,6 +63,20 @@ fn put_run_line(
     put_count(text, number)?;
     put_worker(text, worker)?;
     put_step(text, step)?;
+    put_answer(text, reply)
+}
+
+/// Appends a reply to the end of its line. That of most steps is one push.
+fn put_answer(text: &mut String, reply: &Reply) -> Result<(), AllocError>
+    ensures { OnOk result
+        (string_bytes text.new ≡ string_bytes text.old
+        ++ (codes " : " ++ (reply_text reply.now ++ 10 ∷ []))) }
+{
+    if let Reply::Done(ret) = reply {
+        if *ret == 0 {
+            return put(text, " : ok 0\n");
+        }
+    }
     put(text, " : ")?;
     put_reply(text, reply)?;
     put(text, "\n")

@@ -5,9 +5,10 @@ ghost use Rattle.tx_workers.specs.Texts.{RunsFrom, RunsText};
 
 use crate::faults::WorkFault;
 use crate::gate::NoGate;
-use crate::run::run_workers;
+use crate::run::run_without_notes;
 use crate::text::write_run;
 use std::alloc::Global;
+use std::mem;
 use std::sync::Wait;
 use std::thread::Threads;
 use thiserror::Error;
@@ -30,6 +31,8 @@ pub enum RunFault {
 /// takes so many turns, and writes the run. Nothing is written where the fault is another one than
 /// `Writer`. A text that is no program is told as by `read_program`, a run that gives nothing back as by
 /// `run_workers`.
+///
+/// It is for a program that ends with its run: the session is left to the system.
 pub fn run_program<R, S, W>(
     rt: &R,
     alloc: Global,
@@ -49,15 +52,18 @@ where
         (W.counts sink.new) }
 {
     let session = run_from(rt, alloc, source, workers, turns)?;
-    match write_run(alloc, &session, sink) {
+    let written = write_run(alloc, &session, sink);
+    // The system takes back at once what the turns left.
+    mem::forget(session);
+    match written {
         Ok(()) => Ok(()),
         Err(fault) => Err(RunFault::Text(fault)),
     }
 }
 
 /// Reads the text of a program to its end, and runs it as `run_program` does: the session of that run, for
-/// its caller to tell. The faults are those of `run_program`, but for `Writer`; after one there is no
-/// session.
+/// its caller to tell. No worker makes notes. The faults are those of `run_program`, but for `Writer`;
+/// after one there is no session.
 pub fn run_from<R, S>(
     rt: &R,
     alloc: Global,
@@ -79,8 +85,8 @@ where
     let Ok(session) = Session::boot_by(alloc, program.header) else {
         return Err(RunFault::Work(WorkFault::NoMemory));
     };
-    match run_workers(rt, alloc, session, &program, workers, turns, &NoGate) {
-        Ok(worked) => Ok(worked.session),
+    match run_without_notes(rt, alloc, session, &program, workers, turns, &NoGate) {
+        Ok(outcome) => Ok(outcome.session),
         Err(fault) => Err(RunFault::Work(fault)),
     }
 }

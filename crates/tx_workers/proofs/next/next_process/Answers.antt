@@ -31,55 +31,54 @@ loop-places-init c = refl
 pub loop-places-preserved-then-before-from : goal.loop-places-preserved-then-before-from
 loop-places-preserved-then-before-from c =
     let V : View = view_of c.args.machine.now in
-    let worker = c.args.worker.now in
-    let last : ℕ = worker.last in
+    let last : ℕ = c.args.last in
     let i : ℕ = c.loop-places.places in
     let to : ℕ = c.from-width.result in
     let before : ℕ = (c.from.result + i) % to in
     let wide : to ≡ V.table.width = c.from-width.ensures ∙ c.processes.ensures.table in
     let size : length (all_after V.table.width last) ≡ V.table.width = length-map-range_with_len (places_after V.table.width last) 0 V.table.width in
-    found_over (is_next_of V worker.number worker.total) (all_after V.table.width last) i (to - before) 0 (next_process V worker.number worker.total last) c.loop-places.invariant
+    found_over (is_next_of V c.args.number c.args.total) (all_after V.table.width last) i (to - before) 0 (next_process V c.args.number c.args.total last) c.loop-places.invariant
     λ j less inside.
     let small : i + j < to = omega (arith, size, wide, inside) in
     let within : before + j < to = omega (arith, less) in
     let here = looked_at V.table.width last (i + j) c.from.result to c.from.ensures wide small ∙ ap (λ (n : ℕ). n + 1) (later_number c.from.result i j to within) in
     let over : c.args.top < before + j + 1 = omega (arith, c.if-before-from.true, c.from-in-loop-places.ensures) in
     let there : before + j + 1 ≤ V.table.width = omega (arith, within, wide) in
-    ap (is_next_of V worker.number worker.total) here
-    ∙ neither (belongs_to worker.number worker.total (before + j + 1)) (is_running ((present V).procs (before + j + 1))) (c.requires.top (before + j + 1) over there)
+    ap (is_next_of V c.args.number c.args.total) here
+    ∙ neither (belongs_to c.args.number c.args.total (before + j + 1)) (is_running ((present V).procs (before + j + 1))) (c.requires.top (before + j + 1) over there)
 
 pub returns-then-is_next : goal.returns-then-is_next
 returns-then-is_next c =
     let V : View = view_of c.args.machine.now in
-    let last : ℕ = c.args.worker.now.last in
+    let last : ℕ = c.args.last in
     let i : ℕ = c.loop-places.places in
-    let test : ℕ → Bool = is_next_of V c.args.worker.now.number c.args.worker.now.total in
+    let test : ℕ → Bool = is_next_of V c.args.number c.args.total in
     let xs : List ℕ = all_after V.table.width last in
     let wide : c.from-width.result ≡ V.table.width = c.from-width.ensures ∙ c.processes.ensures.table in
     let here = looked_at V.table.width last i c.from.result c.from-width.result c.from.ensures wide c.loop-places-test.true in
     let size : length xs ≡ V.table.width = length-map-range_with_len (places_after V.table.width last) 0 V.table.width in
     ap Some (sym here)
-    ∙ found_here test xs i 0 (next_process V c.args.worker.now.number c.args.worker.now.total last) c.loop-places.invariant (omega (arith, size, wide, c.loop-places-test.true))
+    ∙ found_here test xs i 0 (next_process V c.args.number c.args.total last) c.loop-places.invariant (omega (arith, size, wide, c.loop-places-test.true))
     (ap test here ∙ sym c.is_next.ensures ∙ c.if-is_next.true)
 
 pub loop-places-preserved : goal.loop-places-preserved
 loop-places-preserved c =
     let V : View = view_of c.args.machine.now in
-    let last : ℕ = c.args.worker.now.last in
+    let last : ℕ = c.args.last in
     let i : ℕ = c.loop-places.places in
-    let test : ℕ → Bool = is_next_of V c.args.worker.now.number c.args.worker.now.total in
+    let test : ℕ → Bool = is_next_of V c.args.number c.args.total in
     let xs : List ℕ = all_after V.table.width last in
     let wide : c.from-width.result ≡ V.table.width = c.from-width.ensures ∙ c.processes.ensures.table in
     let here = looked_at V.table.width last i c.from.result c.from-width.result c.from.ensures wide c.loop-places-test.true in
     let size : length xs ≡ V.table.width = length-map-range_with_len (places_after V.table.width last) 0 V.table.width in
-    found_later test xs i 0 (next_process V c.args.worker.now.number c.args.worker.now.total last) c.loop-places.invariant (omega (arith, size, wide, c.loop-places-test.true))
+    found_later test xs i 0 (next_process V c.args.number c.args.total last) c.loop-places.invariant (omega (arith, size, wide, c.loop-places-test.true))
     (ap test here ∙ sym c.is_next.ensures ∙ c.if-is_next.false)
 
 pub returns : goal.returns
 returns c =
     let V : View = view_of c.args.machine.now in
-    let last : ℕ = c.args.worker.now.last in
+    let last : ℕ = c.args.last in
     let wide : c.from-width.result ≡ V.table.width = c.from-width.ensures ∙ c.processes.ensures.table in
     let size : length (all_after V.table.width last) ≡ V.table.width = length-map-range_with_len (places_after V.table.width last) 0 V.table.width in
-    found_nowhere (is_next_of V c.args.worker.now.number c.args.worker.now.total) (all_after V.table.width last) c.loop-places.places
-    (next_process V c.args.worker.now.number c.args.worker.now.total last) c.loop-places.invariant (omega (arith, size, wide, c.loop-places-test.false))
+    found_nowhere (is_next_of V c.args.number c.args.total) (all_after V.table.width last) c.loop-places.places
+    (next_process V c.args.number c.args.total last) c.loop-places.invariant (omega (arith, size, wide, c.loop-places-test.false))

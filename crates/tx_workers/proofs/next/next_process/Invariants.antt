@@ -6,8 +6,8 @@ use Rattle.tx_workers.proofs.next.next_process.Given as goal
 
 abbrev pub invariant-loop-places : goal.invariant-loop-places
 invariant-loop-places l =
-    next_process (view_of l.machine) l.worker.number l.worker.total l.worker.last
-    ≡ find (is_next_of (view_of l.machine) l.worker.number l.worker.total) (drop l.places (all_after (view_of l.machine).table.width l.worker.last))
+    next_process (view_of l.machine) l.number l.total l.last
+    ≡ find (is_next_of (view_of l.machine) l.number l.total) (drop l.places (all_after (view_of l.machine).table.width l.last))
 
 abbrev pub decreases-loop-places : goal.decreases-loop-places
 decreases-loop-places l = l.width - l.places

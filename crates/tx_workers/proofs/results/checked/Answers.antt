@@ -10,8 +10,8 @@ split_at-requires g c =
     let so = c.close-session.ensures.grown c.args.program.now given.0 c.requires.program given.1 in
     omega (arith, given.2, ap length c.entries.ensures, ap length so.grown, length-append given.0.entries so.added)
 
-pub returns-clause-worked : goal.returns-clause-worked
-returns-clause-worked g c = λ given is.
+pub returns-clause-outcome : goal.returns-clause-outcome
+returns-clause-outcome g c = λ given is.
     let desk = c.close-session.ensures in
     let so = desk.grown c.args.program.now given c.requires.program is in
     let team = c.requires.team in
@@ -28,5 +28,5 @@ returns-clause-worked g c = λ given is.
       counted = so.counted ∙ team.counted;
       count_is = team.count_is;
       crew = team.crew;
-      notes = rw (← back) (search rules);
+      places = rw (← back, ← start) (search rules);
     }

@@ -1,50 +1,9 @@
-use Rattle.std.proofs.Common.{rules, ◌≡◌, ◌+◌, ◌-◌, ◌≤◌, ℕ, Option, length, arith}
-use Rattle.tx_live.specs.Content.{view_of}
-use Rattle.tx_workers.proofs.Turned.{added_by, desk_turned, few_entries, few_more, front_within}
-use Rattle.tx_workers.specs.Turns.{next_process}
+use Rattle.std.proofs.Common.{ap, ◌∙◌}
+use Rattle.tx_model.specs.Answer.{is_running}
+use Rattle.tx_model.specs.View.{View, present}
+use Rattle.tx_workers.proofs.Reached.{none_runs}
 use Rattle.tx_workers.proofs.desk.Desk.turn.Goals as goal
 
-pub invariant_of-self-2 : goal.invariant_of-self-2
-invariant_of-self-2 g c =
-    let worker = c.args.worker.now in
-    let old = c.self.inside.session in
-    let next : Option ℕ = next_process (view_of old.machine) worker.number worker.total worker.last in
-    let made = c.in_ok-turn_up_to.ensures.adds in
-    let counted : c.add.new.self.total ≡ c.self.inside.added.total + (length c.turn_up_to.new.session.entries - length old.entries) =
-    omega (arith, c.add.ensures.total, c.len-before.ensures, c.len-after.ensures) in (
-      desk_turned _ _ c.args.program.now old c.turn_up_to.new.session worker.number next c.self.inside.added.total c.add.new.self.total c.self.invariant.0 c.requires.program
-          c.in_ok-turn_up_to.ensures.view made.entries made.boot made.at_end counted,
-      c.top_after-self-inside.ensures,
-    )
-
-pub turn_up_to-requires-clause-at_end : goal.turn_up_to-requires-clause-at_end
-turn_up_to-requires-clause-at_end g c = c.self.invariant.0.at_end
-
-pub top_after-self-inside-requires-clause-few : goal.top_after-self-inside-requires-clause-few
-top_after-self-inside-requires-clause-few g c =
-    let worker = c.args.worker.now in
-    let old = c.self.inside.session in
-    let next : Option ℕ = next_process (view_of old.machine) worker.number worker.total worker.last in
-    let few : length c.turn_up_to.new.session.entries ≤ length old.entries + 1 =
-    few_entries c.args.program.now old c.turn_up_to.new.session worker.number next c.in_ok-turn_up_to.ensures.adds.entries in
-    omega (arith, few, c.len-before.ensures)
-
-pub top_after-self-inside-requires-clause-booted : goal.top_after-self-inside-requires-clause-booted
-top_after-self-inside-requires-clause-booted g c = omega (arith, c.self.invariant.1.booted, c.in_ok-turn_up_to.ensures.adds.boot.count)
-
-pub top_after-self-inside-requires-clause-made : goal.top_after-self-inside-requires-clause-made
-top_after-self-inside-requires-clause-made g c =
-    let worker = c.args.worker.now in
-    let old = c.self.inside.session in
-    let next : Option ℕ = next_process (view_of old.machine) worker.number worker.total worker.last in
-    front_within c.self.inside.top c.len-before.result old c.turn_up_to.new.session (added_by c.args.program.now old worker.number next) c.self.invariant.1
-    c.in_ok-turn_up_to.ensures.adds.entries c.len-before.ensures
-
-pub returns-clause-few : goal.returns-clause-few
-returns-clause-few g c =
-    let worker = c.args.worker.now in
-    let old = c.self.inside.session in
-    let next : Option ℕ = next_process (view_of old.machine) worker.number worker.total worker.last in
-    let few : length c.turn_up_to.new.worker.notes.items ≤ length worker.notes.items + 1 =
-    few_more c.args.program.now old worker.number next worker.notes.items c.turn_up_to.new.worker.notes.items c.in_ok-turn_up_to.ensures.adds.notes in
-    search rules
+pub next_process-requires-clause-top : goal.next_process-requires-clause-top
+next_process-requires-clause-top g c = λ n over there.
+    ap (λ (V : View). is_running ((present V).procs n)) c.machine-machine.ensures.view ∙ none_runs c.self.inside.top c.self.inside.session c.self.invariant.1 n over

@@ -6,5 +6,5 @@ use Rattle.tx_workers.proofs.floor.Floor.serve.Given as goal
 abbrev pub invariant-loop-before : goal.invariant-loop-before
 invariant-loop-before g l =
     let held = l.station.hand in
-    (l.worker.number ≡ l.post.number) × (vec_len l.worker.notes ≤ l.before) × (l.share.parts ≡ 1) × (l.share.amount ≡ vec_len l.worker.notes) × IsStationOf l.queue l.station
-    × (held.parts ≡ 1) × GivesBack held × (length held.put ≤ l.before * 256) × (length held.taken ≤ l.before * 256) × (vec_len l.worker.notes ≤ length held.taken)
+    (l.runner.number ≡ l.post.number) × (vec_len l.runner.made ≤ l.before) × (l.share.parts ≡ 1) × (l.share.amount ≡ vec_len l.runner.made) × IsStationOf l.queue l.station
+    × (held.parts ≡ 1) × GivesBack held × (length held.put ≤ l.before * 256) × (length held.taken ≤ l.before * 256) × (vec_len l.runner.made ≤ length held.taken)
