@@ -31,7 +31,7 @@
 //! places with those of the entries of its number (`results.rt`, `compare.rt`), and `noted` makes the
 //! workers of these, with notes that are copies of their entries. `run_queue` (`ready.rt`, `crew.rt`,
 //! `service.rt`) does the same with a station beside the share. `run_from` (`whole.rt`) reads a program
-//! and runs it without notes, since its caller has the session alone, and `run_program` writes such a
+//! and runs it without notes, since its caller has the session alone, and `write_run` writes such a
 //! run (`text.rt`). A `Gate` is told of each turn before the lock is taken and after it is let go; by
 //! it tests say in which order turns are taken.
 
@@ -64,5 +64,5 @@ pub use run::run_workers;
 pub use text::write_run;
 pub use turns::{Took, turn, turn_of};
 pub use tx_ready::Tally;
-pub use whole::{RunFault, run_from, run_program};
+pub use whole::{RunFault, run_from};
 pub use worker::Worker;

@@ -1,8 +1,8 @@
 //! The program: reads its words, and then a text.
 //!
 //! The program. `main` is thin: it reads the words with `clap`, calls `replay`, `debug`, `write_json`,
-//! `picture`, `talk`, `run_program`, `check_for` or `write_plain` over the standard streams, or writes what a
-//! word means or what a run did as JSON (`runs.rt`), and answers a status.
+//! `picture`, `talk`, `check_for` or `write_plain` over the standard streams, or writes what a word means or
+//! what a run did (`runs.rt`), and answers a status.
 #![tactic(auto)]
 
 ghost use Rattle.std.specs.Prelude.{◌≡◌, IfOk, OnErr, OnOk, false, true};
@@ -13,7 +13,7 @@ mod runs;
 mod words;
 
 use clap::error::ErrorKind;
-use runs::write_run_json;
+use runs::answer_run;
 use std::alloc::Global;
 use std::fmt::Display;
 use std::io::{BufReader, IsTerminal};
@@ -28,8 +28,7 @@ use tx_picture::picture;
 use tx_plain::write_plain;
 use tx_script::{debug, replay, write_json};
 use tx_shell::{Console, Form, Shell, TalkFault, talk};
-use tx_workers::run_program;
-use words::{Asked, CHECK_USAGE, Crew, JSON_USAGE, VERSION_LINES, number_asked, read_words};
+use words::{Asked, CHECK_USAGE, JSON_USAGE, VERSION_LINES, number_asked, read_words};
 
 /// The status of a fault.
 const FAULTY: u8 = 1;
@@ -97,14 +96,12 @@ where
         Asked::Replay => status_of(rt, replay(alloc, source, sink)),
         Asked::Debug => status_of(rt, debug(alloc, source, sink)),
         Asked::Json => status_of(rt, write_json(alloc, source, sink)),
-        Asked::JsonRun(Crew { workers, turns }) => {
-            status_of(rt, write_run_json(rt, alloc, source, sink, workers, turns))
+        Asked::JsonRun(crew) => {
+            status_of(rt, answer_run(rt, alloc, source, sink, crew, Form::Json))
         }
         Asked::HalfRun => half_run(rt),
         Asked::Shell(form) => status_of(rt, converse(rt, alloc, form, prompts)),
-        Asked::Run(Crew { workers, turns }) => {
-            status_of(rt, run_program(rt, alloc, source, sink, workers, turns))
-        }
+        Asked::Run(crew) => { status_of(rt, answer_run(rt, alloc, source, sink, crew, Form::Text)) }
         Asked::Picture => status_of(rt, picture(alloc, source, sink)),
         Asked::Check(reader) => status_of_check(rt, check_for(alloc, reader, source, sink)),
         Asked::NoReader(word) => no_reader(rt, word),
