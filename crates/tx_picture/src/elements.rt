@@ -4,7 +4,8 @@ ghost use Rattle.tx_picture.specs.Svg.{numbered, numbers_text, shape_name, shape
 
 use crate::escape::put_escaped;
 use std::alloc::AllocError;
-use tx_lines::{put, put_count};
+use std::fmt::Write;
+use tx_lines::put;
 
 /// A shape with four numbers.
 #[derive(Clone, Copy)]
@@ -32,8 +33,7 @@ pub(crate) fn put_shape(
     ensures { OnOk result
         (string_bytes text.new ≡ string_bytes text.old ++ shape_text shape class.now numbers) }
 {
-    put(text, "<")?;
-    put(text, shape_name(shape))?;
+    write!(text, "<{}", shape_name(shape))?;
     put_word(text, "class", class)?;
     put_numbers(text, shape, numbers)?;
     put(text, "/>\n")
@@ -55,25 +55,11 @@ fn put_numbers(text: &mut String, shape: Shape, numbers: Numbers) -> Result<(), 
     ensures { OnOk result
         (string_bytes text.new ≡ string_bytes text.old ++ numbers_text shape numbers) }
 {
+    let Numbers(a, b, c, d) = numbers;
     match shape {
-        Shape::Rect => {
-            put_number(text, "x", numbers.0)?;
-            put_number(text, "y", numbers.1)?;
-            put_number(text, "width", numbers.2)?;
-            put_number(text, "height", numbers.3)
-        }
-        Shape::Line => {
-            put_number(text, "x1", numbers.0)?;
-            put_number(text, "y1", numbers.1)?;
-            put_number(text, "x2", numbers.2)?;
-            put_number(text, "y2", numbers.3)
-        }
-        Shape::Ellipse => {
-            put_number(text, "cx", numbers.0)?;
-            put_number(text, "cy", numbers.1)?;
-            put_number(text, "rx", numbers.2)?;
-            put_number(text, "ry", numbers.3)
-        }
+        Shape::Rect => write!(text, " x=\"{a}\" y=\"{b}\" width=\"{c}\" height=\"{d}\""),
+        Shape::Line => write!(text, " x1=\"{a}\" y1=\"{b}\" x2=\"{c}\" y2=\"{d}\""),
+        Shape::Ellipse => write!(text, " cx=\"{a}\" cy=\"{b}\" rx=\"{c}\" ry=\"{d}\""),
     }
 }
 
@@ -103,11 +89,7 @@ pub(crate) fn put_number(text: &mut String, name: &str, number: u64) -> Result<(
     ensures { OnOk result
         (string_bytes text.new ≡ string_bytes text.old ++ numbered name.now number) }
 {
-    put(text, " ")?;
-    put(text, name)?;
-    put(text, "=\"")?;
-    put_count(text, number)?;
-    put(text, "\"")
+    write!(text, " {name}=\"{number}\"")
 }
 
 /// Appends an attribute that is a word.
@@ -115,9 +97,7 @@ pub(crate) fn put_word(text: &mut String, name: &str, word: &str) -> Result<(), 
     ensures { OnOk result
         (string_bytes text.new ≡ string_bytes text.old ++ worded name.now word.now) }
 {
-    put(text, " ")?;
-    put(text, name)?;
-    put(text, "=\"")?;
+    write!(text, " {name}=\"")?;
     put_escaped(text, word.as_bytes())?;
     put(text, "\"")
 }
