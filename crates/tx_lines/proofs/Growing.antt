@@ -1,5 +1,5 @@
 -- Lines that are read one after another, and the fault after them.
-use Rattle.std.proofs.Common.{◌≡◌, ◌≢◌, inl, inr, ℕ, zero, suc, ◌+◌, ◌<◌, ◌≤◌, List, [], ◌∷◌, ◌++◌, length, ap, ◌∙◌, sym, arith, subst, append_assoc, length-append}
+use Rattle.std.proofs.Common.{◌≡◌, ℕ, zero, suc, ◌+◌, ◌<◌, List, [], ◌∷◌, ◌++◌, length, ap, ◌∙◌, sym, arith, append_assoc, length-append}
 use Rattle.std.specs.Prelude.{All}
 use Rattle.std.proofs.lemmas.List.Elements.{All-append}
 use Rattle.tx_base.specs.declared.steps.Step.{Step}
@@ -7,7 +7,7 @@ use Rattle.tx_lines.specs.declared.faults.Fault.{Fault}
 use Rattle.tx_lines.specs.declared.faults.Fault.TheVariants.{NotALine, NoLabel, TooLong, Reader, Writer, NoMemory}
 use Rattle.tx_lines.specs.declared.read.header.Version.{Version}
 use Rattle.tx_lines.specs.Lines.{step_text}
-use Rattle.tx_lines.specs.Schedule.{lines_of, Adds, AreSteps, FaultsAmong, FaultsAtNext, FaultsBy, FaultsUnread, FitsStepOf, IsLine}
+use Rattle.tx_lines.specs.Schedule.{lines_of, Adds, AreSteps, FaultsAmong, FaultsBy, FitsStepOf}
 
 all_one : {A : Type 0} (P : A → Type 0) (x : A) → P x → All P (x ∷ [])
 all_one P x holds zero d below = holds
@@ -50,36 +50,8 @@ faults_by P Q so NoMemory is = tt
 faults_by P Q so Reader is = absurd is
 faults_by P Q so Writer is = absurd is
 
--- a line that is at fault whatever it says
-pub unread_next : (number : ℕ) (IsNone : List ℕ → Type 0) (count : ℕ) (rest : List ℕ) (fault : Fault) → FaultsUnread number count rest fault → FaultsAtNext number IsNone count rest fault
-unread_next number IsNone count rest (NotALine line) is = (is.0, is.1, is.2, inl is.3)
-unread_next number IsNone count rest (NoLabel line) is = is
-unread_next number IsNone count rest (TooLong line) is = is
-unread_next number IsNone count rest NoMemory is = is
-unread_next number IsNone count rest Reader is = is
-unread_next number IsNone count rest Writer is = is
-
--- a line that is none of its kind
-pub none_next : (number : ℕ) (IsNone : List ℕ → Type 0) (count : ℕ) (left line rest : List ℕ) (at : ℕ) → IsLine left line rest → at ≡ count + number → count < 4096 → IsNone line → FaultsAtNext number IsNone count left (NotALine at)
-none_next number IsNone count left line rest at is same few none = (
-  same,
-  subst (λ (t : List ℕ). length t ≤ 512) is.first is.short,
-  few,
-  inr (subst IsNone is.first none),
-)
-
 -- the fault after some lines is one of the text, where there is one
 module _ {A : Type 0} (spelling : A → List ℕ) (AreGood : List A → Type 0) (After : ℕ → List ℕ → Fault → Type 0) where
   pub faults_among : (xs : List A) (text left : List ℕ) (fault : Fault) → AreGood xs → text ≡ lines_of spelling xs ++ left → FaultsBy (After (length xs) left) fault → FaultsBy (FaultsAmong spelling AreGood After text) fault
   faults_among xs text left fault good parts is =
       faults_by (After (length xs) left) (FaultsAmong spelling AreGood After text) (λ f at. record { before = xs; rest = left; good = good; parts = parts; fault_after = at }) fault is
-
--- a fault whose kinds are those of a text alone
-pub unread_by : (number : ℕ) (IsNone : List ℕ → Type 0) (count : ℕ) (rest : List ℕ) (fault : Fault) → rest ≢ [] → FaultsUnread number count rest fault →
-    FaultsBy (λ f. (rest ≢ []) × FaultsAtNext number IsNone count rest f) fault
-unread_by number IsNone count rest (NotALine line) more is = (more, unread_next number IsNone count rest (NotALine line) is)
-unread_by number IsNone count rest (NoLabel line) more is = (more, unread_next number IsNone count rest (NoLabel line) is)
-unread_by number IsNone count rest (TooLong line) more is = (more, unread_next number IsNone count rest (TooLong line) is)
-unread_by number IsNone count rest NoMemory more is = tt
-unread_by number IsNone count rest Reader more is = is
-unread_by number IsNone count rest Writer more is = is

@@ -172,10 +172,6 @@ listed_more above list word rest n m ms parts spelled rises small known listed =
   text = split_parts 44 list word rest (sym parts) ∙ ap (λ (w : List ℕ). w ++ 44 ∷ rest) spelled ∙ ap (λ (r : List ℕ). decimal n ++ 44 ∷ r) listed.text;
 }
 
--- one signal alone
-pub listed_one : (above : ℕ) (list : List ℕ) (n : ℕ) → list ≡ decimal n → above < n → n < 2 ^ 8 → is_known n ≡ true → AreListed above list n []
-listed_one above list n spelled rises small known = record { rising = (rises, small, known, tt); text = spelled ∙ sym (append-nil (decimal n)) }
-
 -- a set with one signal more
 pub one_more : (set others : SigSet) (signo n : ℕ) (ns : List ℕ) → bits_of set ≡ with_one_more (bits_of others) signo → signo ≡ n → bits_of others ≡ set_of ns → bits_of set ≡ set_of (n ∷ ns)
 one_more set others signo n ns made same has = made ∙ ap (λ (s : ℕ). with_one_more (bits_of others) s) same ∙ ap (λ (b : ℕ). with_one_more b n) has

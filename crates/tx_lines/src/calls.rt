@@ -10,12 +10,9 @@ ghost use Rattle.tx_lines.specs.Words.{first_word};
 ghost use Rattle.tx_lines.specs.declared.read.header.Version.{Version};
 
 use crate::filling::Numbers;
-use crate::print::calls::descriptors::{put_pipe, put_set_nonblock};
-use crate::print::calls::memory::{put_protect, put_store};
-use crate::print::calls::processes::{put_fork, put_waitpid};
-use crate::print::calls::script::{put_console_write, put_jump};
-use crate::print::calls::signals::{put_sigaction, put_sigprocmask, put_sigqueue};
-use crate::print::shapes::{put_one, put_three, put_two};
+use crate::print::arguments::{access, put_action, put_when, switch, waiting, way};
+use crate::print::bytes::put_digits;
+use crate::print::members::put_set;
 use crate::print::words;
 use crate::read::calls::place::put;
 use crate::read::calls::{descriptors, memory, processes, script, signals, transfers};
@@ -23,6 +20,7 @@ use crate::read::header::Version;
 use crate::read::numbers::number;
 use crate::read::small::read_pid;
 use std::alloc::AllocError;
+use std::fmt::Write;
 use tx_base::{Call, When};
 
 /// The call on memory of that name and with those arguments, or one that a later group has. Nothing
@@ -209,46 +207,59 @@ pub fn put_call(text: &mut String, call: &Call) -> Result<(), AllocError>
     ensures { OnOk result (string_bytes text.new ≡ string_bytes text.old ++ call_text call.now) }
 {
     match call {
-        Call::Store(address, bytes) => put_store(text, *address, bytes.as_slice()),
-        Call::Load(address) => put_one(text, "load ", *address),
+        Call::Map(page) => write!(text, "map {page}"),
+        Call::Unmap(page) => write!(text, "unmap {page}"),
+        Call::Protect(page, writable) => write!(text, "protect {page} {}", access(*writable)),
+        Call::Store(address, bytes) => {
+            write!(text, "store {address} ")?;
+            put_digits(text, bytes.as_slice())
+        }
+        Call::Load(address) => write!(text, "load {address}"),
+        Call::Fork(child) => write!(text, "fork {}", child.0),
+        Call::Exit(status) => write!(text, "exit {status}"),
+        Call::Waitpid(target, nohang) => write!(text, "waitpid {target} {}", waiting(*nohang)),
+        Call::Setuid(id) => write!(text, "setuid {id}"),
+        Call::Seteuid(id) => write!(text, "seteuid {id}"),
+        Call::Setgid(id) => write!(text, "setgid {id}"),
+        Call::Setegid(id) => write!(text, "setegid {id}"),
+        Call::Pipe(pipe, read, write) => { write!(text, "pipe {} {} {}", pipe.0, read.0, write.0) }
+        Call::Dup(fd) => write!(text, "dup {fd}"),
+        Call::Dup2(from, to) => write!(text, "dup2 {from} {to}"),
+        Call::Close(fd) => write!(text, "close {fd}"),
+        Call::SetNonblock(fd, on) => write!(text, "set_nonblock {fd} {}", switch(*on)),
+        Call::Read(fd, address, count) => write!(text, "read {fd} {address} {count}"),
+        Call::Write(fd, address, count) => write!(text, "write {fd} {address} {count}"),
         Call::SysXbegin => words::put(text, "sys_xbegin"),
         Call::SysXbeginDefer => words::put(text, "sys_xbegin defer"),
         Call::SysXend => words::put(text, "sys_xend"),
         Call::SysXabort => words::put(text, "sys_xabort"),
-        Call::Map(page) => put_one(text, "map ", *page),
-        Call::Unmap(page) => put_one(text, "unmap ", *page),
-        Call::Protect(page, writable) => put_protect(text, *page, *writable),
-        Call::Fork(child) => put_fork(text, *child),
-        Call::Exit(status) => put_one(text, "exit ", *status),
-        Call::Waitpid(target, nohang) => put_waitpid(text, *target, *nohang),
-        Call::Setuid(id) => put_one(text, "setuid ", *id),
-        Call::Seteuid(id) => put_one(text, "seteuid ", *id),
-        Call::Setgid(id) => put_one(text, "setgid ", *id),
-        Call::Setegid(id) => put_one(text, "setegid ", *id),
-        Call::Pipe(pipe, read, write) => put_pipe(text, *pipe, *read, *write),
-        Call::Dup(fd) => put_one(text, "dup ", *fd),
-        Call::Dup2(from, to) => put_two(text, "dup2 ", *from, *to),
-        Call::Close(fd) => put_one(text, "close ", *fd),
-        Call::SetNonblock(fd, on) => put_set_nonblock(text, *fd, *on),
-        Call::Read(fd, address, count) => put_three(text, "read ", *fd, *address, *count),
-        Call::Write(fd, address, count) => put_three(text, "write ", *fd, *address, *count),
-        Call::Kill(target, signo) => put_two(text, "kill ", *target, *signo),
-        Call::Sigqueue(target, signo, value) => put_sigqueue(text, *target, *signo, *value),
-        Call::Sigaction(signo, action) => put_sigaction(text, *signo, *action),
-        Call::Sigprocmask(how, set) => put_sigprocmask(text, *how, *set),
-        Call::ConsoleWrite(address, count) => put_console_write(text, *address, *count),
-        Call::Jump(point, when) => put_jump(text, *point, *when),
-        Call::Keep(slot) => put_one(text, "keep ", *slot),
-        _ => put_bare_call(text, call),
+        _ => put_other_call(text, call),
     }
 }
 
-/// Appends a call without an argument, but none of transactions.
-fn put_bare_call(text: &mut String, call: &Call) -> Result<(), AllocError>
-    requires { 8 ≤ group_of call.now }
+/// Appends a call on signals, of a script, on the console, or without an argument, but none of
+/// transactions.
+fn put_other_call(text: &mut String, call: &Call) -> Result<(), AllocError>
+    requires { 6 ≤ group_of call.now }
     ensures { OnOk result (string_bytes text.new ≡ string_bytes text.old ++ call_text call.now) }
 {
     match call {
+        Call::Kill(target, signo) => write!(text, "kill {target} {signo}"),
+        Call::Sigqueue(target, signo, value) => write!(text, "sigqueue {target} {signo} {value}"),
+        Call::Sigaction(signo, action) => {
+            write!(text, "sigaction {signo} ")?;
+            put_action(text, *action)
+        }
+        Call::Sigprocmask(how, set) => {
+            write!(text, "sigprocmask {} ", way(*how))?;
+            put_set(text, *set)
+        }
+        Call::ConsoleWrite(address, count) => write!(text, "console_write {address} {count}"),
+        Call::Jump(point, when) => {
+            write!(text, "jump {point} ")?;
+            put_when(text, *when)
+        }
+        Call::Keep(slot) => write!(text, "keep {slot}"),
         Call::Getpid => words::put(text, "getpid"),
         Call::Getppid => words::put(text, "getppid"),
         Call::Sigpending => words::put(text, "sigpending"),

@@ -1,11 +1,10 @@
 //! Prints words, numbers and bytes, lists and sets of them, and the lines of schedules: the counterpart
 //! of what reads them.
 
+pub mod arguments;
 pub mod bytes;
-pub mod calls;
 pub mod lists;
 pub mod members;
 pub mod refusals;
-pub mod shapes;
 pub mod steps;
 pub mod words;

@@ -5,6 +5,7 @@ ghost use Rattle.tx_lines.specs.Lists.{list_text};
 
 use crate::print::words::{put, put_count};
 use std::alloc::AllocError;
+use std::fmt::Write;
 
 /// Appends numbers, joined by commas; `-` where there are none.
 pub fn put_numbers(text: &mut String, numbers: &[usize]) -> Result<(), AllocError>
@@ -24,6 +25,5 @@ pub fn put_numbers(text: &mut String, numbers: &[usize]) -> Result<(), AllocErro
 fn put_more(text: &mut String, number: usize) -> Result<(), AllocError>
     ensures { OnOk result (string_bytes text.new ≡ string_bytes text.old ++ 44 ∷ decimal number) }
 {
-    put(text, ",")?;
-    put_count(text, number as u64)
+    write!(text, ",{number}")
 }

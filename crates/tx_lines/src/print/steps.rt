@@ -3,9 +3,9 @@ ghost use Rattle.std.specs.Prelude.{◌≡◌, ◌++◌, OnOk, string_bytes};
 ghost use Rattle.tx_lines.specs.Lines.{step_text};
 
 use crate::calls::put_call;
-use crate::print::shapes::put_count_first;
-use crate::print::words::{put, put_count};
+use crate::print::words::put_count_first;
 use std::alloc::AllocError;
+use std::fmt::Write;
 use tx_base::Step;
 
 /// Appends the line of a step, without the line's end. The only error is that a growth of memory was
@@ -18,14 +18,7 @@ pub fn put_step(text: &mut String, step: &Step) -> Result<(), AllocError>
             put_count_first(text, u64::from(pid.0))?;
             put_call(text, call)
         }
-        Step::Deliver(pid, signo) => {
-            put_count_first(text, u64::from(pid.0))?;
-            put(text, "deliver ")?;
-            put_count(text, u64::from(signo.0))
-        }
-        Step::KernelAbort(starter) => {
-            put(text, "kernel ")?;
-            put_count(text, u64::from(starter.0))
-        }
+        Step::Deliver(pid, signo) => write!(text, "{} deliver {}", pid.0, signo.0),
+        Step::KernelAbort(starter) => write!(text, "kernel {}", starter.0),
     }
 }

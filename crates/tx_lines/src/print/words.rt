@@ -1,11 +1,12 @@
 //! Writes words, numbers and bytes to a text in memory.
-ghost use Rattle.std.specs.Prelude.{◌≡◌, ◌++◌, ◌<◌, OnOk, slice_index, string_bytes};
+ghost use Rattle.std.specs.Prelude.{◌≡◌, ◌++◌, ◌∷◌, ◌<◌, [], OnOk, slice_index, string_bytes};
 ghost use Rattle.std.specs.Fmt.{decimal, signed_decimal};
 ghost use Rattle.hex.specs.Hex.{lower_digits};
 ghost use Rattle.tx_lines.specs.Bytes.{two_digits};
 
 use itoa::Buffer;
 use std::alloc::AllocError;
+use std::fmt::Write;
 
 /// Appends a word, or several with what parts them. The only error is that a growth of memory was
 /// refused: the text is then as it was.
@@ -44,6 +45,14 @@ pub fn put_count(text: &mut String, count: u64) -> Result<(), AllocError>
 {
     let mut buffer = Buffer::new();
     text.push_str(buffer.format(count))
+}
+
+/// Appends a count or the number of a thing, and a space.
+pub fn put_count_first(text: &mut String, count: u64) -> Result<(), AllocError>
+    ensures { OnOk result
+        (string_bytes text.new ≡ string_bytes text.old ++ (decimal count ++ 32 ∷ [])) }
+{
+    write!(text, "{count} ")
 }
 
 /// Appends a byte, as two lower-case hex digits.
