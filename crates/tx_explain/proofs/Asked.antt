@@ -1,49 +1,48 @@
--- What is found among topics is the topic of the word that is found among words.
-use Rattle.std.proofs.Common.{◌≡◌, ◌∙◌, Bool, true, false, cond, ◌||◌, ◌&&◌, List, [], ◌∷◌, ◌++◌, map, Option, Some, None, refl, ap, ap₂, sym, subst, rules, IsTrue, is_some, option_map, Bor}
+-- What is found among topics is the topic of the row that is found in the table.
+use Rattle.std.proofs.Common.{◌≡◌, ◌∙◌, Bool, true, false, cond, ◌||◌, ◌&&◌, List, [], ◌∷◌, ◌++◌, map, Option, Some, refl, ap, ap₂, sym, subst, rules, IsTrue, option_map, Bor}
 use Rattle.std.specs.Prelude.{IfSome}
 use Rattle.std.proofs.lemmas.List.Folds.{list_all-append}
 use Rattle.std.specs.List.{find, list_all, list_any}
 use Rattle.tx_explain.specs.declared.topic.Topic.{Topic}
 use Rattle.tx_explain.specs.declared.topic.Group.{Group}
-use Rattle.tx_explain.specs.Words.{Text, all_words}
-use Rattle.tx_explain.specs.Topics.{asked, is_among, is_formed, is_formed_group, is_page, is_same_word, name_among, opens, spells, topics_in, words_in, words_of, words_of_group}
+use Rattle.tx_explain.specs.Table.{Row, Text, all_rows}
+use Rattle.tx_explain.specs.Topics.{is_among, is_formed, is_formed_group, is_page, is_same_word, opens, row_asked, row_of, rows_in, rows_of_group, spells, topics_in}
 
-spelled_by : (word : Text) (topic : Topic) → is_among word (words_of topic) ≡ spells word topic
+-- a topic is asked for by its word, or by another of its words
+pub spelled_by : (word : Text) (topic : Topic) → spells word topic ≡ (is_same_word topic.word.now word || list_any (λ (w : Bor Text). is_same_word w.now word) topic.also.now)
 spelled_by word topic = ap (λ b. is_same_word topic.word.now word || b) (go topic.also.now)
   where
     go : (also : List (Bor Text)) → list_any (λ one. is_same_word one word) (map (λ (w : Bor Text). w.now) also) ≡ list_any (λ (w : Bor Text). is_same_word w.now word) also
     go [] = refl
     go (w ∷ ws) = ap (λ b. is_same_word w.now word || b) (go ws)
 
--- among the words of topics those of the first topic are found that the word spells
-found_words : (word : Text) (topics : List Topic) → find (is_among word) (map words_of topics) ≡ option_map words_of (find (spells word) topics)
-found_words word [] = refl
-found_words word (t ∷ ts) = rw (spelled_by word t) (go (spells word t) (found_words word ts))
+found_row : (test : Row → Bool) (topics : List Topic) → find test (map row_of topics) ≡ option_map row_of (find (λ t. test (row_of t)) topics)
+found_row test [] = refl
+found_row test (t ∷ ts) = go (test (row_of t)) (found_row test ts)
   where
-    go : (b : Bool) → find (is_among word) (map words_of ts) ≡ option_map words_of (find (spells word) ts)
-        → cond b (Some (words_of t)) (find (is_among word) (map words_of ts)) ≡ option_map words_of (cond b (Some t) (find (spells word) ts))
+    go : (b : Bool) → find test (map row_of ts) ≡ option_map row_of (find (λ t. test (row_of t)) ts)
+        → cond b (Some (row_of t)) (find test (map row_of ts)) ≡ option_map row_of (cond b (Some t) (find (λ t. test (row_of t)) ts))
     go true is = refl
     go false is = is
 
-appended : (xs ys : List Topic) → map words_of (xs ++ ys) ≡ map words_of xs ++ map words_of ys
+appended : (xs ys : List Topic) → map row_of (xs ++ ys) ≡ map row_of xs ++ map row_of ys
 appended [] ys = refl
-appended (x ∷ xs) ys = ap (λ zs. words_of x ∷ zs) (appended xs ys)
+appended (x ∷ xs) ys = ap (λ zs. row_of x ∷ zs) (appended xs ys)
 
-pub in_groups : (groups : List Group) → words_in (map words_of_group groups) ≡ map words_of (topics_in groups)
+in_groups : (groups : List Group) → rows_in (map rows_of_group groups) ≡ map row_of (topics_in groups)
 in_groups [] = refl
-in_groups (g ∷ gs) = ap (λ zs. map words_of g.topics.now ++ zs) (in_groups gs) ∙ sym (appended g.topics.now (topics_in gs))
+in_groups (g ∷ gs) = ap (λ zs. map row_of g.topics.now ++ zs) (in_groups gs) ∙ sym (appended g.topics.now (topics_in gs))
 
-pub word_first : (found : Option Topic) → option_map name_among (option_map words_of found) ≡ option_map (λ (t : Topic). t.word.now) found
-word_first None = refl
-word_first (Some t) = refl
+-- what is found in the table is the row of the topic that is found
+pub row_found : (test : Row → Bool) (groups : List Group) → map rows_of_group groups ≡ all_rows
+    → find test (rows_in all_rows) ≡ option_map row_of (find (λ t. test (row_of t)) (topics_in groups))
+row_found test groups all =
+    ap (λ rows. find test (rows_in rows)) (sym all) ∙ ap (find test) (in_groups groups) ∙ found_row test (topics_in groups)
 
--- the topic that is found has the word that is asked for
-pub asked_is : (word : Text) (groups : List Group) → map words_of_group groups ≡ all_words
-    → asked word ≡ option_map (λ (t : Topic). t.word.now) (find (spells word) (topics_in groups))
-asked_is word groups all =
-    let words : words_in all_words ≡ map words_of (topics_in groups) = ap words_in (sym all) ∙ in_groups groups in
-    ap (λ ws. option_map name_among (find (is_among word) ws)) words
-    ∙ ap (option_map name_among) (found_words word (topics_in groups)) ∙ word_first (find (spells word) (topics_in groups))
+-- the same of what a word asks for
+pub row_is : (word : Text) (groups : List Group) (found : Option Topic) → map rows_of_group groups ≡ all_rows → found ≡ find (spells word) (topics_in groups)
+    → row_asked word ≡ option_map row_of found
+row_is word groups found all is = row_found (λ (row : Row). is_among word row.0) groups all ∙ ap (option_map row_of) (sym is)
 
 both_true : (a b : Bool) → (a && b) ≡ true → (a ≡ true) × (b ≡ true)
 both_true true true is = (refl, refl)
@@ -67,11 +66,6 @@ all_formed (g ∷ gs) all =
     let both = both_true (is_formed_group g) (list_all is_formed_group gs) all in
     list_all-append is_formed g.topics.now (topics_in gs) ∙ ap₂ (λ a b. a && b) both.0 (all_formed gs both.1)
 
--- what is found, or that nothing is, is what is asked for
-pub asked_at : (word : Text) (groups : List Group) (found : Option Topic) → map words_of_group groups ≡ all_words
-    → found ≡ find (spells word) (topics_in groups) → asked word ≡ option_map (λ (t : Topic). t.word.now) found
-asked_at word groups found all is = asked_is word groups all ∙ ap (option_map (λ (t : Topic). t.word.now)) (sym is)
-
 -- a topic that is found is well formed
 pub found_formed : (word : Text) (groups : List Group) (topic : Topic) → IsTrue (list_all is_formed_group groups)
     → Some topic ≡ find (spells word) (topics_in groups)
@@ -80,12 +74,3 @@ found_formed word groups topic all is =
     let formed : is_formed topic ≡ true =
     subst (λ found. IfSome found (λ t. is_formed t ≡ true)) (sym is) (formed_one (spells word) (topics_in groups) (all_formed groups (search (rules, all)))) in
     both_true _ _ formed
-
-named_found : (found : Option Topic) → is_some found ≡ true → is_some (option_map (λ (t : Topic). t.word.now) found) ≡ true
-named_found None is = is
-named_found (Some t) is = refl
-
--- a word by which a topic is found is one that is asked for
-pub asks : (word : Text) (groups : List Group) → map words_of_group groups ≡ all_words → is_some (find (spells word) (topics_in groups)) ≡ true
-    → is_some (asked word) ≡ true
-asks word groups all found = ap is_some (asked_is word groups all) ∙ named_found _ found

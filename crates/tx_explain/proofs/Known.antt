@@ -9,12 +9,12 @@ use Rattle.tx_base.specs.declared.steps.Call.{Call}
 use Rattle.tx_base.specs.declared.steps.Call.TheVariants as call
 use Rattle.tx_base.specs.declared.steps.Refusal.{Refusal}
 use Rattle.tx_base.specs.declared.steps.Refusal.TheVariants.{NoProcess, NotRunning, BadNumber, NumberTaken, Doomed, Parked, KillPending, Busy, Wait, NotDeliverable, FramesFull, NoTransaction, NoMemory, Deferred}
-use Rattle.tx_explain.specs.Words.{Text, all_words}
+use Rattle.tx_explain.specs.Table.{Text, all_rows}
 use Rattle.tx_explain.specs.Calls.{call_word, error_name, refusal_word}
 use Rattle.tx_explain.specs.Topics.{asked, is_page_of, opens}
 
 pub every_refusal : (why : Refusal) → asked (refusal_word why) ≡ Some (refusal_word why)
-unfolding digits all_words
+unfolding digits all_rows
 every_refusal NoProcess = refl
 every_refusal NotRunning = refl
 every_refusal BadNumber = refl
@@ -31,7 +31,7 @@ every_refusal NoMemory = refl
 every_refusal Deferred = refl
 
 pub every_call : (call : Call) → asked (call_word call) ≡ Some (call_word call)
-unfolding digits all_words
+unfolding digits all_rows
 every_call (call.Map page) = refl
 every_call (call.Unmap page) = refl
 every_call (call.Protect page writable) = refl
@@ -68,7 +68,7 @@ every_call call.SysXend = refl
 every_call call.SysXabort = refl
 
 pub every_error : (error : Errno) → asked (45 ∷ decimal (error_number error)) ≡ Some (error_name error)
-unfolding digits all_words
+unfolding digits all_rows
 every_error NotPermitted = refl
 every_error NoSuchProcess = refl
 every_error BadDescriptor = refl
@@ -80,7 +80,7 @@ every_error TooManyDescriptors = refl
 every_error BrokenPipe = refl
 
 pub every_number : (error : Errno) → is_some (asked (decimal (error_number error))) ≡ true
-unfolding digits all_words
+unfolding digits all_rows
 every_number NotPermitted = refl
 every_number NoSuchProcess = refl
 every_number BadDescriptor = refl

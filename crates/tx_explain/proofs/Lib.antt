@@ -1,5 +1,4 @@
 mod Asked
 mod FoundAt
-mod FirstLines
 mod Known
 mod NearWord

@@ -1,31 +1,23 @@
 -- The word that is nearest, by the topic that is found.
-use Rattle.std.proofs.Common.{◌≡◌, ◌∙◌, ℕ, ◌<◌, ◌+◌, ◌-◌, suc, zero, Bool, true, false, cond, nat_le, List, [], ◌∷◌, map, Some, None, refl, ap, sym, subst, arith, option_map}
+use Rattle.std.proofs.Common.{◌≡◌, ◌∙◌, ℕ, ◌<◌, ◌+◌, ◌-◌, suc, zero, false, nat_le, List, map, Option, Some, None, refl, ap, sym, subst, arith, option_map}
 use Rattle.std.specs.List.{find}
 use Rattle.std.specs.Option.{option_or}
 use Rattle.tx_explain.specs.declared.topic.Topic.{Topic}
 use Rattle.tx_explain.specs.declared.topic.Group.{Group}
 use Rattle.tx_explain.specs.Edits.{edits, is_near, is_near_topic, near_word, nearest_below}
-use Rattle.tx_explain.specs.Topics.{name_among, topics_in, words_in, words_of, words_of_group}
-use Rattle.tx_explain.specs.Words.{Text, all_words}
-use Rattle.tx_explain.proofs.Asked.{in_groups, word_first}
-
-near_words : (most : ℕ) (word : Text) (topics : List Topic)
-    → find (λ words. is_near most word (name_among words)) (map words_of topics) ≡ option_map words_of (find (is_near_topic most word) topics)
-near_words most word [] = refl
-near_words most word (t ∷ ts) = go (is_near_topic most word t) (near_words most word ts)
-  where
-    go : (b : Bool) → find (λ words. is_near most word (name_among words)) (map words_of ts) ≡ option_map words_of (find (is_near_topic most word) ts)
-        → cond b (Some (words_of t)) (find (λ words. is_near most word (name_among words)) (map words_of ts)) ≡ option_map words_of (cond b (Some t) (find (is_near_topic most word) ts))
-    go true is = refl
-    go false is = is
+use Rattle.tx_explain.specs.Table.{Row, Text, all_rows}
+use Rattle.tx_explain.specs.Topics.{name_in, row_of, rows_of_group, topics_in}
+use Rattle.tx_explain.proofs.Asked.{row_found}
 
 -- the first word that is near is that of the first topic whose word is
-pub near_among : (most : ℕ) (word : Text) (groups : List Group) → map words_of_group groups ≡ all_words
+pub near_among : (most : ℕ) (word : Text) (groups : List Group) → map rows_of_group groups ≡ all_rows
     → near_word most word ≡ option_map (λ (t : Topic). t.word.now) (find (is_near_topic most word) (topics_in groups))
 near_among most word groups all =
-    let words : words_in all_words ≡ map words_of (topics_in groups) = ap words_in (sym all) ∙ in_groups groups in
-    ap (λ ws. option_map name_among (find (λ it. is_near most word (name_among it)) ws)) words
-    ∙ ap (option_map name_among) (near_words most word (topics_in groups)) ∙ word_first (find (is_near_topic most word) (topics_in groups))
+    ap (option_map name_in) (row_found (λ (row : Row). is_near most word (name_in row)) groups all) ∙ go (find (is_near_topic most word) (topics_in groups))
+  where
+    go : (found : Option Topic) → option_map name_in (option_map row_of found) ≡ option_map (λ (t : Topic). t.word.now) found
+    go None = refl
+    go (Some t) = refl
 
 nearest_next : (edits : ℕ) (word : Text) → nearest_below (edits + 1) word ≡ option_or (nearest_below edits word) (near_word edits word)
 nearest_next edits word =

@@ -3,7 +3,7 @@ use Rattle.std.specs.Prelude.{codes}
 use Rattle.tx_base.specs.declared.errors.Errno.{Errno}
 use Rattle.tx_base.specs.declared.errors.Errno.TheVariants.{NotPermitted, NoSuchProcess, BadDescriptor, NoChild, TryAgain, BadAddress, InvalidArgument, TooManyDescriptors, BrokenPipe}
 use Rattle.tx_base.specs.declared.steps.Call.{Call}
-use Rattle.tx_explain.specs.Words.{Text}
+use Rattle.tx_explain.specs.Table.{Text}
 use Rattle.tx_lines.specs.Calls.{parts_of}
 pub use Rattle.tx_lines.specs.Refusals.{refusal_word}
 

@@ -5,8 +5,8 @@ use Rattle.std.specs.Option.{option_or}
 use Rattle.std.specs.Str.{chars}
 use Rattle.strsim.specs.Edits.{levenshtein_row}
 use Rattle.tx_explain.specs.declared.topic.Topic.{Topic}
-use Rattle.tx_explain.specs.Words.{Text, all_words}
-use Rattle.tx_explain.specs.Topics.{name_among, words_in}
+use Rattle.tx_explain.specs.Table.{Row, Text, all_rows}
+use Rattle.tx_explain.specs.Topics.{name_in, rows_in}
 
 -- how many edits lead from one word to the other, in small letters
 unfoldable pub edits : Text → Text → ℕ
@@ -26,7 +26,7 @@ is_near_topic most word topic = is_near most word topic.word.now
 
 -- the first word that is explained and so many edits away, or fewer
 abbrev pub near_word : ℕ → Text → Option Text
-near_word most word = option_map name_among (find (λ words. is_near most word (name_among words)) (words_in all_words))
+near_word most word = option_map name_in (find (λ (row : Row). is_near most word (name_in row)) (rows_in all_rows))
 
 -- the first word of those that are the fewest edits away, and fewer than so many
 abbrev pub nearest_below : ℕ → Text → Option Text

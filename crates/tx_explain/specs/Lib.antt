@@ -1,5 +1,4 @@
-pub mod Words
+pub mod Table
 pub mod Calls
 pub mod Topics
 pub mod Edits
-pub mod FirstLines

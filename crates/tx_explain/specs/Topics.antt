@@ -1,20 +1,28 @@
 -- By which words a topic is asked for, and what its text is like.
-use Rattle.std.specs.Prelude.{ℕ, ◌+◌, ◌==◌, nat_le, nat_eq, Bool, false, ◌||◌, ◌&&◌, List, [], ◌∷◌, ◌++◌, map, Option, None, Some, find, option_map, codes, if◌then◌else◌}
+use Rattle.std.specs.Prelude.{ℕ, ◌+◌, ◌==◌, nat_le, nat_eq, Bool, false, ◌&&◌, List, [], ◌∷◌, ◌++◌, map, Option, None, Some, find, option_map, codes, if◌then◌else◌}
 use Rattle.std.specs.Borrow.{Bor}
 use Rattle.std.specs.Char.{to_ascii_lowercase}
-use Rattle.std.specs.List.{flat_map, list_all, list_any, starts_with}
+use Rattle.std.specs.List.{before_first, flat_map, list_all, list_any, starts_with}
 use Rattle.std.specs.Str.{bytes_eq}
 use Rattle.tx_explain.specs.declared.topic.Topic.{Topic}
 use Rattle.tx_explain.specs.declared.topic.Group.{Group}
-use Rattle.tx_explain.specs.Words.{Text, all_words}
+use Rattle.tx_explain.specs.Table.{Row, Text, all_rows, name_among}
 
 -- the word of a topic, and what else it is called
 abbrev pub words_of : Topic → List Text
 words_of topic = topic.word.now ∷ map (λ also. also.now) topic.also.now
 
--- a group's title, and the words of its topics
-abbrev pub words_of_group : Group → Text × List (List Text)
-words_of_group group = (group.title.now, map words_of group.topics.now)
+-- the first line of a text, without its end
+abbrev pub first_line : Text → Text
+first_line text = before_first (λ byte. byte == 10) text
+
+-- what the table says of a topic
+abbrev pub row_of : Topic → Row
+row_of topic = (words_of topic, first_line topic.text.now)
+
+-- a group's title, and the rows of its topics
+abbrev pub rows_of_group : Group → Text × List Row
+rows_of_group group = (group.title.now, map row_of group.topics.now)
 
 -- the same letters, in either case
 abbrev pub is_same_word : Text → Text → Bool
@@ -26,24 +34,31 @@ is_among word words = list_any (λ one. is_same_word one word) words
 
 -- a topic is asked for by a word
 abbrev pub spells : Text → Topic → Bool
-spells word topic = is_same_word topic.word.now word || list_any (λ also. is_same_word also.now word) topic.also.now
+spells word topic = is_among word (words_of topic)
 
 -- the topics of all groups
 abbrev pub topics_in : List Group → List Topic
 topics_in groups = flat_map (λ (group : Group). group.topics.now) groups
 
--- the words of all groups, topic by topic
-abbrev pub words_in : List (Text × List (List Text)) → List (List Text)
-words_in groups = flat_map (λ (group : Text × List (List Text)). group.1) groups
+-- the rows of all groups
+abbrev pub rows_in : List (Text × List Row) → List Row
+rows_in groups = flat_map (λ (group : Text × List Row). group.1) groups
 
--- the first of a topic's words, by which it goes
-abbrev pub name_among : List Text → Text
-name_among [] = []
-name_among (word ∷ words) = word
+-- the word by which the topic of a row goes
+abbrev pub name_in : Row → Text
+name_in row = name_among row.0
 
--- the word of the topic that is asked for by a word
+-- the row of the topic that is asked for by a word
+abbrev pub row_asked : Text → Option Row
+row_asked word = find (λ (row : Row). is_among word row.0) (rows_in all_rows)
+
+-- the word of that topic
 abbrev pub asked : Text → Option Text
-asked word = option_map name_among (find (is_among word) (words_in all_words))
+asked word = option_map name_in (row_asked word)
+
+-- the first line of its page
+abbrev pub told : Text → Option Text
+told word = option_map (λ (row : Row). row.1) (row_asked word)
 
 -- lines of printable characters, each of 79 columns at most and with its end: what is left of them from a column on
 abbrev pub are_lines_from : ℕ → Text → Bool
@@ -73,9 +88,9 @@ abbrev pub is_formed_group : Group → Bool
 is_formed_group group = list_all is_formed group.topics.now
 
 -- a group's title, and a line with the words of its topics
-abbrev pub group_lines : Text × List (List Text) → Text
-group_lines group = group.0 ++ 10 ∷ 32 ∷ (flat_map (λ words. 32 ∷ name_among words) group.1 ++ 10 ∷ [])
+abbrev pub group_lines : Text × List Row → Text
+group_lines group = group.0 ++ 10 ∷ 32 ∷ (flat_map (λ (row : Row). 32 ∷ name_in row) group.1 ++ 10 ∷ [])
 
 -- the lines of all groups
-abbrev pub listed : List (Text × List (List Text)) → Text
+abbrev pub listed : List (Text × List Row) → Text
 listed groups = flat_map group_lines groups

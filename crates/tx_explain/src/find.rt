@@ -1,5 +1,5 @@
 //! Finds what a word means.
-ghost use Rattle.std.specs.Prelude.{◌≡◌, ◌∷◌, IfSome, IsTrue, find, is_some, true};
+ghost use Rattle.std.specs.Prelude.{◌≡◌, ◌∷◌, IfSome, IsTrue, Some, find, is_some, true};
 ghost use Rattle.std.specs.Fmt.{decimal};
 ghost use Rattle.std.specs.Option.{option_copied};
 ghost use Rattle.tx_base.specs.Errors.{error_number};
@@ -7,8 +7,7 @@ ghost use Rattle.tx_base.specs.declared.errors.Errno.{Errno};
 ghost use Rattle.tx_base.specs.declared.steps.Call.{Call};
 ghost use Rattle.tx_base.specs.declared.steps.Refusal.{Refusal};
 ghost use Rattle.tx_explain.specs.Calls.{call_word, error_name, refusal_word};
-ghost use Rattle.tx_explain.specs.FirstLines.{is_told};
-ghost use Rattle.tx_explain.specs.Topics.{asked, is_page, is_page_of, opens, spells, topics_in};
+ghost use Rattle.tx_explain.specs.Topics.{asked, first_line, is_page, is_page_of, opens, spells, told, topics_in};
 
 use crate::topic::{Group, Topic};
 use crate::topics::groups;
@@ -17,12 +16,12 @@ use crate::topics::groups;
 /// characters, each with its end, of which the first begins with the word and `: `. Letters count as
 /// the same in either case, and a number is found with `-` before it too. Nothing where the word is
 /// none of [`listing`](crate::listing), and no other name of one. What the first line says is pinned
-/// (`FirstLines.antt`); what the lines after it say is not.
+/// (`Table.antt`); what the lines after it say is not.
 pub fn explain(word: &str) -> Option<&'static str>
     ensures known { is_some result ≡ is_some (asked word.now) }
     ensures opens { IfSome result (λ text. IfSome (asked word.now) (λ name.
         IsTrue (opens name text.now))) }
-    ensures first { IfSome result (λ text. is_told text.now ≡ true) }
+    ensures first { IfSome result (λ text. Some (first_line text.now) ≡ told word.now) }
     ensures lines { IfSome result (λ text. IsTrue (is_page text.now)) }
     ensures calls { (call : Call) → word.now ≡ call_word call →
         is_page_of (call_word call) result ≡ true }

@@ -5,7 +5,7 @@
 //! `explain` answers a word, `listing` has all words in groups, and `nearest` finds the word that one
 //! was meant for. `topics/` has a table for each group, with the texts as they are told; `topic.rt`
 //! says what a topic is. Which words there are is said once more, and each promise goes by that, in
-//! `specs/Words.antt`. What the texts say is compared with the documents by `tests/explained`.
+//! `specs/Table.antt`. What the texts say is compared with the documents by `tests/explained`.
 #![tactic(auto)]
 
 mod find;

@@ -1,12 +1,12 @@
 //! The list of all words.
 ghost use Rattle.std.specs.Prelude.{◌≡◌, IsTrue};
+ghost use Rattle.tx_explain.specs.Table.{all_rows};
 ghost use Rattle.tx_explain.specs.Topics.{is_page, listed};
-ghost use Rattle.tx_explain.specs.Words.{all_words};
 
 /// The words that [`explain`](crate::explain) knows, in groups: for each group its title, and a line
 /// with its words. A word that is found by another one too, as `EINVAL` by `-22`, stands once.
 pub fn listing() -> &'static str
-    ensures words { result.now ≡ listed all_words }
+    ensures words { result.now ≡ listed all_rows }
     ensures lines { IsTrue (is_page result.now) }
 {
     LISTING

@@ -22,6 +22,7 @@ pub struct Group {
 
 impl Topic {
     /// Whether it is asked for by a word, in either case of letters.
+    #[tactic(auto, using(crate::proofs::Asked::spelled_by))]
     pub fn is_asked(&self, word: &str) -> bool
         ensures { result ≡ spells word.now self.now }
     {

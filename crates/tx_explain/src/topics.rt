@@ -1,9 +1,8 @@
 //! All topics, in groups.
 ghost use Rattle.std.specs.Prelude.{◌≡◌, map, IsTrue};
 ghost use Rattle.std.specs.List.{list_all};
-ghost use Rattle.tx_explain.specs.FirstLines.{all_first_lines, first_lines_of};
-ghost use Rattle.tx_explain.specs.Topics.{is_formed_group, words_of_group};
-ghost use Rattle.tx_explain.specs.Words.{all_words};
+ghost use Rattle.tx_explain.specs.Table.{all_rows};
+ghost use Rattle.tx_explain.specs.Topics.{is_formed_group, rows_of_group};
 
 mod calls;
 mod commands;
@@ -26,10 +25,9 @@ mod texts;
 use crate::topic::Group;
 
 /// All groups, in the order in which they are listed.
-#[tactic(auto, unfolding(crate::specs::Words::all_words, crate::specs::FirstLines::all_first_lines))]
+#[tactic(auto, unfolding(crate::specs::Table::all_rows))]
 pub fn groups() -> [Group; 23]
-    ensures words { map words_of_group result ≡ all_words }
-    ensures first { map first_lines_of result ≡ all_first_lines }
+    ensures rows { map rows_of_group result ≡ all_rows }
     ensures formed { IsTrue (list_all is_formed_group result) }
 {
     [

@@ -7,10 +7,11 @@ ghost use Rattle.tx_desc.specs.Places.{number_in};
 ghost use Rattle.tx_text.specs.Descriptors.{desc_line, desc_text, descs_text, fd_line, fds_text, pipe_line, pipes_text, side_text, wait_text};
 
 use std::alloc::AllocError;
+use std::fmt::Write;
 use tx_base::{DESCRIPTIONS, DESCRIPTORS, DescNo, PIPES, PipeNo};
 use tx_change::PipeTable;
 use tx_desc::{Desc, Descs, FdTable, Opened, Side};
-use tx_lines::{put, put_bytes, put_count};
+use tx_lines::{put, put_bytes};
 use tx_pipe::Pipe;
 
 /// Appends the line of each open descriptor, by rising number.
@@ -29,13 +30,7 @@ pub fn put_fd_line(text: &mut String, fd: usize, name: Option<DescNo>) -> Result
         (string_bytes text.new ≡ string_bytes text.old ++ fd_line fd (number_in name)) }
 {
     match name {
-        Some(number) => {
-            put(text, "fd ")?;
-            put_count(text, fd as u64)?;
-            put(text, " ")?;
-            put_count(text, u64::from(number.0))?;
-            put(text, "\n")
-        }
+        Some(number) => write!(text, "fd {fd} {}\n", number.0),
         None => Ok(()),
     }
 }
@@ -71,12 +66,8 @@ fn put_desc(text: &mut String, number: usize, desc: Desc) -> Result<(), AllocErr
     ensures { OnOk result
         (string_bytes text.new ≡ string_bytes text.old ++ desc_text number (description_of desc)) }
 {
-    put(text, "desc ")?;
-    put_count(text, number as u64)?;
-    put(text, " ")?;
-    put_count(text, u64::from(desc.pipe.0))?;
-    put(text, side(desc.side))?;
-    put(text, wait(desc.nonblock))
+    let pipe = desc.pipe.0;
+    write!(text, "desc {number} {pipe}{}{}", side(desc.side), wait(desc.nonblock))
 }
 
 /// The letter of a side, after a space.
@@ -119,9 +110,7 @@ pub fn put_pipe_line(
 {
     match pipe {
         Some(pipe) => {
-            put(text, "pipe ")?;
-            put_count(text, number as u64)?;
-            put(text, " ")?;
+            write!(text, "pipe {number} ")?;
             put_bytes(text, pipe.bytes())?;
             put(text, "\n")
         }

@@ -4,16 +4,17 @@ ghost use Rattle.std.specs.Option.{option_copied};
 ghost use Rattle.tx_change.specs.States.{state_of};
 ghost use Rattle.tx_cred.specs.Cred.{ids_of};
 ghost use Rattle.tx_proc.specs.Parts.{process_in, process_of};
-ghost use Rattle.tx_text.specs.Processes.{are_root, byte_text, end_text, flag_text, head_text, ids_line, own_text, page_line, page_text, pages_text, process_lines, process_text, procs_text, status_text, three_ids};
+ghost use Rattle.tx_text.specs.Processes.{are_root, byte_text, flag_text, head_text, ids_line, own_text, page_line, page_text, pages_text, process_lines, procs_text, status_text};
 
 use crate::descriptors::put_fds;
 use crate::registers::{put_run, put_slots_line};
 use crate::signals::put_signals;
 use std::alloc::AllocError;
+use std::fmt::Write;
 use tx_base::{PAGE_BYTES, PAGES, Pid};
 use tx_change::Parts;
 use tx_cred::Cred;
-use tx_lines::{put, put_byte, put_count};
+use tx_lines::{put, put_byte};
 use tx_pages::{Page, Space};
 use tx_proc::Proc;
 
@@ -37,19 +38,12 @@ pub fn put_slot_lines(text: &mut String, pid: Pid, slot: Option<&Proc>) -> Resul
         ++ process_lines pid.0 (process_in (option_copied slot.entry))) }
 {
     match slot {
-        Some(proc) => put_proc(text, pid, proc),
+        Some(proc) => {
+            put_head(text, pid, proc)?;
+            put_own(text, proc)
+        }
         None => Ok(()),
     }
-}
-
-/// Appends the lines of a process.
-fn put_proc(text: &mut String, pid: Pid, proc: &Proc) -> Result<(), AllocError>
-    ensures { OnOk result
-        (string_bytes text.new ≡ string_bytes text.old
-        ++ process_text pid.0 (process_of proc.now)) }
-{
-    put_head(text, pid, proc)?;
-    put_own(text, proc)
 }
 
 /// Appends the first line of a process.
@@ -57,18 +51,7 @@ fn put_head(text: &mut String, pid: Pid, proc: &Proc) -> Result<(), AllocError>
     ensures { OnOk result
         (string_bytes text.new ≡ string_bytes text.old ++ head_text pid.0 (process_of proc.now)) }
 {
-    put(text, "proc ")?;
-    put_count(text, u64::from(pid.0))?;
-    put(text, " parent ")?;
-    put_count(text, u64::from(proc.parent.0))?;
-    put_end(text, proc)
-}
-
-/// Appends what follows the number and the parent of a process.
-fn put_end(text: &mut String, proc: &Proc) -> Result<(), AllocError>
-    ensures { OnOk result
-        (string_bytes text.new ≡ string_bytes text.old ++ end_text proc.now.status proc.now.regs) }
-{
+    write!(text, "proc {} parent {}", pid.0, proc.parent.0)?;
     match proc.status {
         Some(status) => put_status(text, status),
         None => put_run(text, &proc.regs),
@@ -80,13 +63,10 @@ fn put_status(text: &mut String, status: u16) -> Result<(), AllocError>
     ensures { OnOk result (string_bytes text.new ≡ string_bytes text.old ++ status_text status) }
 {
     if status < 256 {
-        put(text, " exit ")?;
-        put_count(text, u64::from(status))?;
+        write!(text, " exit {status}\n")
     } else {
-        put(text, " killed ")?;
-        put_count(text, u64::from(status - 256))?;
+        write!(text, " killed {}\n", status - 256)
     }
-    put(text, "\n")
 }
 
 /// Appends the lines of what a process has.
@@ -109,15 +89,10 @@ pub fn put_ids(text: &mut String, cred: Cred) -> Result<(), AllocError>
     if are_root(cred) {
         return Ok(());
     }
-    put(text, "ids")?;
-    put_three(text, cred.real_user, cred.effective_user, cred.saved_user)?;
-    put_three(
-        text,
-        cred.real_group,
-        cred.effective_group,
-        cred.saved_group,
-    )?;
-    put(text, "\n")
+    let (real, effective, saved) = (cred.real_user, cred.effective_user, cred.saved_user);
+    write!(text, "ids {real} {effective} {saved}")?;
+    let (real, effective, saved) = (cred.real_group, cred.effective_group, cred.saved_group);
+    write!(text, " {real} {effective} {saved}\n")
 }
 
 /// Whether every id is 0.
@@ -130,19 +105,6 @@ fn are_root(cred: Cred) -> bool
         && cred.real_group == 0
         && cred.effective_group == 0
         && cred.saved_group == 0
-}
-
-/// Appends three ids, each after a space.
-fn put_three(text: &mut String, real: u16, effective: u16, saved: u16) -> Result<(), AllocError>
-    ensures { OnOk result
-        (string_bytes text.new ≡ string_bytes text.old ++ three_ids real effective saved) }
-{
-    put(text, " ")?;
-    put_count(text, u64::from(real))?;
-    put(text, " ")?;
-    put_count(text, u64::from(effective))?;
-    put(text, " ")?;
-    put_count(text, u64::from(saved))
 }
 
 /// Appends the line of each mapped page, by rising number.
@@ -176,9 +138,7 @@ fn put_page(text: &mut String, number: usize, page: &Page) -> Result<(), AllocEr
     ensures { OnOk result
         (string_bytes text.new ≡ string_bytes text.old ++ page_text number page.now) }
 {
-    put(text, "page ")?;
-    put_count(text, number as u64)?;
-    put(text, flag(page.is_writable()))?;
+    write!(text, "page {number}{}", flag(page.is_writable()))?;
     let bytes = page.bytes();
     for offset in 0..PAGE_BYTES {
         put_byte_at(text, offset, bytes[offset])?;
@@ -200,8 +160,6 @@ fn put_byte_at(text: &mut String, offset: usize, byte: u8) -> Result<(), AllocEr
     if byte == 0 {
         return Ok(());
     }
-    put(text, " ")?;
-    put_count(text, offset as u64)?;
-    put(text, "=")?;
+    write!(text, " {offset}=")?;
     put_byte(text, byte)
 }

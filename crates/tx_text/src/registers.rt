@@ -3,18 +3,15 @@ ghost use Rattle.std.specs.Prelude.{◌≡◌, ◌++◌, OnOk, string_bytes};
 ghost use Rattle.tx_text.specs.Registers.{is_blank_of, run_text, slot_text, slots_end, slots_line};
 
 use std::alloc::AllocError;
+use std::fmt::Write;
 use tx_base::Regs;
-use tx_lines::{put, put_count, put_number};
+use tx_lines::{put, put_number};
 
 /// Appends the end of a running process's line.
 pub fn put_run(text: &mut String, regs: &Regs) -> Result<(), AllocError>
     ensures { OnOk result (string_bytes text.new ≡ string_bytes text.old ++ run_text regs.now) }
 {
-    put(text, " run point ")?;
-    put_count(text, u64::from(regs.point))?;
-    put(text, " ret ")?;
-    put_number(text, regs.ret)?;
-    put(text, "\n")
+    write!(text, " run point {} ret {}\n", regs.point, regs.ret)
 }
 
 /// Appends the line of the slots, where one is not 0.

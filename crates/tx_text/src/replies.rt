@@ -3,6 +3,7 @@ ghost use Rattle.std.specs.Prelude.{◌≡◌, ◌++◌, ◌∷◌, ◌<◌, ◌
 ghost use Rattle.tx_text.specs.Replies.{error_name, missed_text, name_beside, named_reply_text, refusal_text, reply_text, undelivered_text};
 
 use std::alloc::AllocError;
+use std::fmt::Write;
 use tx_base::{Missed, Refusal, Reply};
 use tx_lines::{put, put_bytes, put_count, put_number, refusal_word};
 
@@ -53,12 +54,8 @@ fn put_missed(text: &mut String, missed: &Missed) -> Result<(), AllocError>
     ensures { OnOk result
         (string_bytes text.new ≡ string_bytes text.old ++ missed_text missed.now) }
 {
-    put(text, " ")?;
-    put_count(text, u64::from(missed.target.0))?;
-    put(text, ":")?;
-    put_count(text, u64::from(missed.signo.0))?;
-    put(text, ":")?;
-    put_count(text, u64::from(missed.errno.number()))
+    let (target, signo) = (missed.target.0, missed.signo.0);
+    write!(text, " {target}:{signo}:{}", missed.errno.number())
 }
 
 /// Appends what a refusal is called, and the starter where one is in the way.
@@ -93,10 +90,7 @@ fn put_name_beside(text: &mut String, reply: &Reply) -> Result<(), AllocError>
         return Ok(());
     };
     match error_name(*ret) {
-        Some(name) => {
-            put(text, " ")?;
-            put(text, name)
-        }
+        Some(name) => write!(text, " {name}"),
         None => Ok(()),
     }
 }

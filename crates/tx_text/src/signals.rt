@@ -7,8 +7,9 @@ ghost use Rattle.tx_text.specs.Signals.{action_line, actions_text, entry_text, f
 use crate::registers::put_slots;
 use bitflags::Flags;
 use std::alloc::AllocError;
-use tx_base::{Action, SIGNALS, SigSet, Signo};
-use tx_lines::{put, put_count, put_number, put_set};
+use std::fmt::Write;
+use tx_base::{Action, Regs, SIGNALS, SigSet, Signo};
+use tx_lines::{put, put_set};
 use tx_proc::Proc;
 use tx_signal::{Actions, Frame, Queued};
 
@@ -57,17 +58,9 @@ fn put_action_line(text: &mut String, signo: Signo, action: Action) -> Result<()
 {
     match action {
         Action::Usual => Ok(()),
-        Action::Ignore => {
-            put(text, "action ")?;
-            put_count(text, u64::from(signo.0))?;
-            put(text, " ignore\n")
-        }
+        Action::Ignore => write!(text, "action {} ignore\n", signo.0),
         Action::Catch { point, mask } => {
-            put(text, "action ")?;
-            put_count(text, u64::from(signo.0))?;
-            put(text, " catch ")?;
-            put_count(text, u64::from(point))?;
-            put(text, " ")?;
+            write!(text, "action {} catch {point} ", signo.0)?;
             put_set(text, mask)?;
             put(text, "\n")
         }
@@ -93,10 +86,7 @@ pub fn put_queued_line(text: &mut String, entries: &[Queued]) -> Result<(), Allo
 fn put_entry(text: &mut String, entry: &Queued) -> Result<(), AllocError>
     ensures { OnOk result (string_bytes text.new ≡ string_bytes text.old ++ entry_text entry.now) }
 {
-    put(text, " ")?;
-    put_count(text, u64::from(entry.signo.0))?;
-    put(text, ":")?;
-    put_number(text, entry.value)
+    write!(text, " {}:{}", entry.signo.0, entry.value)
 }
 
 /// Appends the line of each frame, the oldest first.
@@ -114,11 +104,8 @@ fn put_frames(text: &mut String, frames: &[Frame]) -> Result<(), AllocError>
 fn put_frame(text: &mut String, frame: &Frame) -> Result<(), AllocError>
     ensures { OnOk result (string_bytes text.new ≡ string_bytes text.old ++ frame_text frame.now) }
 {
-    put(text, "frame ")?;
-    put_count(text, u64::from(frame.registers.point))?;
-    put(text, " ")?;
-    put_number(text, frame.registers.ret)?;
-    put(text, " ")?;
+    let Regs { point, ret, slots } = &frame.registers;
+    write!(text, "frame {point} {ret} ")?;
     put_set(text, frame.mask)?;
-    put_slots(text, &frame.registers.slots)
+    put_slots(text, slots)
 }

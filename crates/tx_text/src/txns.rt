@@ -8,8 +8,9 @@ ghost use Rattle.tx_text.specs.Txns.{flag_of, held_text, helds_text, is_listed_i
 
 use crate::links::Links;
 use std::alloc::AllocError;
+use std::fmt::Write;
 use tx_base::{Mark, Pid, Sending, Slots};
-use tx_lines::{dash, put, put_count, put_member, put_number};
+use tx_lines::{dash, put, put_member};
 
 /// Appends the lines of a starter's live transaction, with what it holds: none where the process has
 /// begun none. It goes over the members once for each of the two lists.
@@ -58,9 +59,7 @@ fn put_txn(
         (string_bytes text.new ≡ string_bytes text.old
         ++ txn_text width (slot_at marks.now) starter.0 defers) }
 {
-    put(text, "txn ")?;
-    put_count(text, u64::from(starter.0))?;
-    put(text, flag(defers))?;
+    write!(text, "txn {}{}", starter.0, flag(defers))?;
     put_members(text, marks, links, width, starter, false)?;
     put(text, " ended ")?;
     put_members(text, marks, links, width, starter, true)?;
@@ -129,11 +128,6 @@ fn put_held(text: &mut String, sending: &Sending) -> Result<(), AllocError>
     ensures { OnOk result
         (string_bytes text.new ≡ string_bytes text.old ++ held_text (sending_of sending.now)) }
 {
-    put(text, "held ")?;
-    put_count(text, u64::from(sending.target.0))?;
-    put(text, ":")?;
-    put_count(text, u64::from(sending.signo.0))?;
-    put(text, ":")?;
-    put_number(text, sending.value)?;
-    put(text, "\n")
+    let (target, signo) = (sending.target.0, sending.signo.0);
+    write!(text, "held {target}:{signo}:{}\n", sending.value)
 }

@@ -1,16 +1,14 @@
 //! Commands of the debugger.
 ghost use Rattle.std.specs.Prelude.{◌≡◌, map, IsTrue};
 ghost use Rattle.std.specs.List.{list_all};
-ghost use Rattle.tx_explain.specs.FirstLines.{first_line_of, debugger_lines};
-ghost use Rattle.tx_explain.specs.Topics.{is_formed, words_of};
-ghost use Rattle.tx_explain.specs.Words.{debugger_words};
+ghost use Rattle.tx_explain.specs.Table.{debugger_rows};
+ghost use Rattle.tx_explain.specs.Topics.{is_formed, row_of};
 
 use crate::topic::Topic;
 
 /// Commands of the debugger.
 pub fn topics() -> &'static [Topic]
-    ensures words { map words_of result.now ≡ debugger_words }
-    ensures first { map first_line_of result.now ≡ debugger_lines }
+    ensures rows { map row_of result.now ≡ debugger_rows }
     ensures formed { IsTrue (list_all is_formed result.now) }
 {
     &TOPICS

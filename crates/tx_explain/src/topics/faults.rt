@@ -1,16 +1,14 @@
 //! What is said on standard error, with status 1.
 ghost use Rattle.std.specs.Prelude.{◌≡◌, map, IsTrue};
 ghost use Rattle.std.specs.List.{list_all};
-ghost use Rattle.tx_explain.specs.FirstLines.{first_line_of, fault_lines};
-ghost use Rattle.tx_explain.specs.Topics.{is_formed, words_of};
-ghost use Rattle.tx_explain.specs.Words.{fault_words};
+ghost use Rattle.tx_explain.specs.Table.{fault_rows};
+ghost use Rattle.tx_explain.specs.Topics.{is_formed, row_of};
 
 use crate::topic::Topic;
 
 /// What is said on standard error, with status 1.
 pub fn topics() -> &'static [Topic]
-    ensures words { map words_of result.now ≡ fault_words }
-    ensures first { map first_line_of result.now ≡ fault_lines }
+    ensures rows { map row_of result.now ≡ fault_rows }
     ensures formed { IsTrue (list_all is_formed result.now) }
 {
     &TOPICS

@@ -1,16 +1,14 @@
 //! The signals that the kernel sends, and those that queue.
 ghost use Rattle.std.specs.Prelude.{◌≡◌, map, IsTrue};
 ghost use Rattle.std.specs.List.{list_all};
-ghost use Rattle.tx_explain.specs.FirstLines.{first_line_of, notice_lines};
-ghost use Rattle.tx_explain.specs.Topics.{is_formed, words_of};
-ghost use Rattle.tx_explain.specs.Words.{notice_words};
+ghost use Rattle.tx_explain.specs.Table.{notice_rows};
+ghost use Rattle.tx_explain.specs.Topics.{is_formed, row_of};
 
 use crate::topic::Topic;
 
 /// The signals that the kernel sends, and those that queue.
 pub fn topics() -> &'static [Topic]
-    ensures words { map words_of result.now ≡ notice_words }
-    ensures first { map first_line_of result.now ≡ notice_lines }
+    ensures rows { map row_of result.now ≡ notice_rows }
     ensures formed { IsTrue (list_all is_formed result.now) }
 {
     &TOPICS

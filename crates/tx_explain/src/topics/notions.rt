@@ -1,16 +1,14 @@
 //! What the words of the texts are about.
 ghost use Rattle.std.specs.Prelude.{◌≡◌, map, IsTrue};
 ghost use Rattle.std.specs.List.{list_all};
-ghost use Rattle.tx_explain.specs.FirstLines.{first_line_of, notion_lines};
-ghost use Rattle.tx_explain.specs.Topics.{is_formed, words_of};
-ghost use Rattle.tx_explain.specs.Words.{notion_words};
+ghost use Rattle.tx_explain.specs.Table.{notion_rows};
+ghost use Rattle.tx_explain.specs.Topics.{is_formed, row_of};
 
 use crate::topic::Topic;
 
 /// What the words of the texts are about.
 pub fn topics() -> &'static [Topic]
-    ensures words { map words_of result.now ≡ notion_words }
-    ensures first { map first_line_of result.now ≡ notion_lines }
+    ensures rows { map row_of result.now ≡ notion_rows }
     ensures formed { IsTrue (list_all is_formed result.now) }
 {
     &TOPICS

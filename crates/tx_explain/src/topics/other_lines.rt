@@ -1,16 +1,14 @@
 //! What a state's text has of descriptions, pipes and transactions.
 ghost use Rattle.std.specs.Prelude.{◌≡◌, map, IsTrue};
 ghost use Rattle.std.specs.List.{list_all};
-ghost use Rattle.tx_explain.specs.FirstLines.{first_line_of, other_line_lines};
-ghost use Rattle.tx_explain.specs.Topics.{is_formed, words_of};
-ghost use Rattle.tx_explain.specs.Words.{other_line_words};
+ghost use Rattle.tx_explain.specs.Table.{other_line_rows};
+ghost use Rattle.tx_explain.specs.Topics.{is_formed, row_of};
 
 use crate::topic::Topic;
 
 /// What a state's text has of descriptions, pipes and transactions.
 pub fn topics() -> &'static [Topic]
-    ensures words { map words_of result.now ≡ other_line_words }
-    ensures first { map first_line_of result.now ≡ other_line_lines }
+    ensures rows { map row_of result.now ≡ other_line_rows }
     ensures formed { IsTrue (list_all is_formed result.now) }
 {
     &TOPICS

@@ -1,16 +1,14 @@
 //! The signals that programs send, by name and by number.
 ghost use Rattle.std.specs.Prelude.{◌≡◌, map, IsTrue};
 ghost use Rattle.std.specs.List.{list_all};
-ghost use Rattle.tx_explain.specs.FirstLines.{first_line_of, sent_lines};
-ghost use Rattle.tx_explain.specs.Topics.{is_formed, words_of};
-ghost use Rattle.tx_explain.specs.Words.{sent_words};
+ghost use Rattle.tx_explain.specs.Table.{sent_rows};
+ghost use Rattle.tx_explain.specs.Topics.{is_formed, row_of};
 
 use crate::topic::Topic;
 
 /// The signals that programs send, by name and by number.
 pub fn topics() -> &'static [Topic]
-    ensures words { map words_of result.now ≡ sent_words }
-    ensures first { map first_line_of result.now ≡ sent_lines }
+    ensures rows { map row_of result.now ≡ sent_rows }
     ensures formed { IsTrue (list_all is_formed result.now) }
 {
     &TOPICS

@@ -1,16 +1,14 @@
 //! Commands of the shell that the debugger has not.
 ghost use Rattle.std.specs.Prelude.{◌≡◌, map, IsTrue};
 ghost use Rattle.std.specs.List.{list_all};
-ghost use Rattle.tx_explain.specs.FirstLines.{first_line_of, shell_lines};
-ghost use Rattle.tx_explain.specs.Topics.{is_formed, words_of};
-ghost use Rattle.tx_explain.specs.Words.{shell_words};
+ghost use Rattle.tx_explain.specs.Table.{shell_rows};
+ghost use Rattle.tx_explain.specs.Topics.{is_formed, row_of};
 
 use crate::topic::Topic;
 
 /// Commands of the shell that the debugger has not.
 pub fn topics() -> &'static [Topic]
-    ensures words { map words_of result.now ≡ shell_words }
-    ensures first { map first_line_of result.now ≡ shell_lines }
+    ensures rows { map row_of result.now ≡ shell_rows }
     ensures formed { IsTrue (list_all is_formed result.now) }
 {
     &TOPICS

@@ -1,16 +1,14 @@
 //! Steps that are no calls.
 ghost use Rattle.std.specs.Prelude.{◌≡◌, map, IsTrue};
 ghost use Rattle.std.specs.List.{list_all};
-ghost use Rattle.tx_explain.specs.FirstLines.{first_line_of, step_lines};
-ghost use Rattle.tx_explain.specs.Topics.{is_formed, words_of};
-ghost use Rattle.tx_explain.specs.Words.{step_words};
+ghost use Rattle.tx_explain.specs.Table.{step_rows};
+ghost use Rattle.tx_explain.specs.Topics.{is_formed, row_of};
 
 use crate::topic::Topic;
 
 /// Steps that are no calls.
 pub fn topics() -> &'static [Topic]
-    ensures words { map words_of result.now ≡ step_words }
-    ensures first { map first_line_of result.now ≡ step_lines }
+    ensures rows { map row_of result.now ≡ step_rows }
     ensures formed { IsTrue (list_all is_formed result.now) }
 {
     &TOPICS

@@ -1,16 +1,17 @@
 use Rattle.std.proofs.Common.{◌≡◌, ◌∙◌, List, None, Some, ap, sym, subst, is_some, IfSome, IsTrue}
 use Rattle.std.specs.List.{find}
+use Rattle.std.specs.Prelude.{option_map}
 use Rattle.tx_explain.specs.declared.topic.Group.{Group}
-use Rattle.tx_explain.specs.Topics.{asked, opens, spells, topics_in}
-use Rattle.tx_explain.proofs.Asked.{asked_at, found_formed}
-use Rattle.tx_explain.proofs.FirstLines.{found_told}
+use Rattle.tx_explain.specs.Table.{Row}
+use Rattle.tx_explain.specs.Topics.{asked, name_in, opens, spells, topics_in}
+use Rattle.tx_explain.proofs.Asked.{found_formed, row_is}
 use Rattle.tx_explain.proofs.Known.{answers, answers_page, every_call, every_error, every_number, every_refusal}
 use Rattle.tx_explain.proofs.find.explain.Goals as goal
 
 known : (c : goal.After-from_residual) → is_some c.from_residual.result ≡ is_some (asked c.args.word.now)
 known c =
     let found = c.in_err-topic.ensures ∙ ap (λ (gs : List Group). find (spells c.args.word.now) (topics_in gs)) c.as_slice.ensures in
-    ap is_some c.from_residual.ensures ∙ sym (ap is_some (asked_at c.args.word.now _ None c.groups-groups.ensures.words found))
+    ap is_some c.from_residual.ensures ∙ sym (ap (λ it. is_some (option_map name_in it)) (row_is c.args.word.now c.groups-groups.result None c.groups-groups.ensures.rows found))
 
 pub returns-in_err-topic-clause-known : goal.returns-in_err-topic-clause-known
 returns-in_err-topic-clause-known c = known c
@@ -33,19 +34,19 @@ returns-in_err-topic-clause-numbers c = λ error is. answers c.args.word.now _ _
 pub returns-clause-first : goal.returns-clause-first
 returns-clause-first c =
     let found = c.in_ok-topic.ensures ∙ ap (λ (gs : List Group). find (spells c.args.word.now) (topics_in gs)) c.as_slice.ensures in
-    found_told (spells c.args.word.now) c.groups-groups.result c.in_ok-topic.topic.now c.groups-groups.ensures.first found
+    sym (ap (option_map (λ (row : Row). row.1)) (row_is c.args.word.now c.groups-groups.result (Some c.in_ok-topic.topic.now) c.groups-groups.ensures.rows found))
 
 pub returns-clause-known : goal.returns-clause-known
 returns-clause-known c =
     let found = c.in_ok-topic.ensures ∙ ap (λ (gs : List Group). find (spells c.args.word.now) (topics_in gs)) c.as_slice.ensures in
-    sym (ap is_some (asked_at c.args.word.now _ _ c.groups-groups.ensures.words found))
+    sym (ap (λ it. is_some (option_map name_in it)) (row_is c.args.word.now c.groups-groups.result (Some c.in_ok-topic.topic.now) c.groups-groups.ensures.rows found))
 
 pub returns-clause-opens : goal.returns-clause-opens
 returns-clause-opens c =
     let found = c.in_ok-topic.ensures ∙ ap (λ (gs : List Group). find (spells c.args.word.now) (topics_in gs)) c.as_slice.ensures in
-    let is = asked_at c.args.word.now _ _ c.groups-groups.ensures.words found in
+    let row = row_is c.args.word.now c.groups-groups.result (Some c.in_ok-topic.topic.now) c.groups-groups.ensures.rows found in
     let formed = found_formed c.args.word.now c.groups-groups.result _ c.groups-groups.ensures.formed found in
-    subst (λ name. IfSome name (λ word. IsTrue (opens word c.in_ok-topic.topic.now.text.now))) (sym is) formed.0
+    subst (λ name. IfSome name (λ word. IsTrue (opens word c.in_ok-topic.topic.now.text.now))) (sym (ap (option_map name_in) row)) formed.0
 
 pub returns-clause-lines : goal.returns-clause-lines
 returns-clause-lines c =

@@ -1,16 +1,14 @@
 //! Calls on descriptors and pipes.
 ghost use Rattle.std.specs.Prelude.{◌≡◌, map, IsTrue};
 ghost use Rattle.std.specs.List.{list_all};
-ghost use Rattle.tx_explain.specs.FirstLines.{first_line_of, descriptor_lines};
-ghost use Rattle.tx_explain.specs.Topics.{is_formed, words_of};
-ghost use Rattle.tx_explain.specs.Words.{descriptor_words};
+ghost use Rattle.tx_explain.specs.Table.{descriptor_rows};
+ghost use Rattle.tx_explain.specs.Topics.{is_formed, row_of};
 
 use crate::topic::Topic;
 
 /// Calls on descriptors and pipes.
 pub fn topics() -> &'static [Topic]
-    ensures words { map words_of result.now ≡ descriptor_words }
-    ensures first { map first_line_of result.now ≡ descriptor_lines }
+    ensures rows { map row_of result.now ≡ descriptor_rows }
     ensures formed { IsTrue (list_all is_formed result.now) }
 {
     &TOPICS

@@ -1,16 +1,14 @@
 //! Calls on memory.
 ghost use Rattle.std.specs.Prelude.{◌≡◌, map, IsTrue};
 ghost use Rattle.std.specs.List.{list_all};
-ghost use Rattle.tx_explain.specs.FirstLines.{first_line_of, memory_lines};
-ghost use Rattle.tx_explain.specs.Topics.{is_formed, words_of};
-ghost use Rattle.tx_explain.specs.Words.{memory_words};
+ghost use Rattle.tx_explain.specs.Table.{memory_rows};
+ghost use Rattle.tx_explain.specs.Topics.{is_formed, row_of};
 
 use crate::topic::Topic;
 
 /// Calls on memory.
 pub fn topics() -> &'static [Topic]
-    ensures words { map words_of result.now ≡ memory_words }
-    ensures first { map first_line_of result.now ≡ memory_lines }
+    ensures rows { map row_of result.now ≡ memory_rows }
     ensures formed { IsTrue (list_all is_formed result.now) }
 {
     &TOPICS

@@ -2,9 +2,9 @@ use Rattle.std.proofs.Common.{refl}
 use Rattle.std.specs.Fmt.{digits}
 use Rattle.tx_explain.proofs.topics.errors.topics.Goals as goal
 
-pub returns-clause-words : goal.returns-clause-words
+pub returns-clause-rows : goal.returns-clause-rows
 unfolding digits
-returns-clause-words c = refl
+returns-clause-rows c = refl
 
 pub returns-clause-formed : goal.returns-clause-formed
 returns-clause-formed c = refl
