@@ -67,7 +67,12 @@ fn put_desc(text: &mut String, number: usize, desc: Desc) -> Result<(), AllocErr
         (string_bytes text.new ≡ string_bytes text.old ++ desc_text number (description_of desc)) }
 {
     let pipe = desc.pipe.0;
-    write!(text, "desc {number} {pipe}{}{}", side(desc.side), wait(desc.nonblock))
+    write!(
+        text,
+        "desc {number} {pipe}{}{}",
+        side(desc.side),
+        wait(desc.nonblock)
+    )
 }
 
 /// The letter of a side, after a space.

@@ -4,7 +4,7 @@ ghost use Rattle.std.specs.Option.{option_copied};
 ghost use Rattle.tx_change.specs.States.{state_of};
 ghost use Rattle.tx_cred.specs.Cred.{ids_of};
 ghost use Rattle.tx_proc.specs.Parts.{process_in, process_of};
-ghost use Rattle.tx_text.specs.Processes.{are_root, byte_text, flag_text, head_text, ids_line, own_text, page_line, page_text, pages_text, process_lines, procs_text, status_text};
+ghost use Rattle.tx_text.specs.Processes.{are_root, byte_text, end_text, flag_text, head_text, ids_line, own_text, page_line, page_text, pages_text, process_lines, procs_text, status_text};
 
 use crate::descriptors::put_fds;
 use crate::registers::{put_run, put_slots_line};
@@ -52,6 +52,14 @@ fn put_head(text: &mut String, pid: Pid, proc: &Proc) -> Result<(), AllocError>
         (string_bytes text.new ≡ string_bytes text.old ++ head_text pid.0 (process_of proc.now)) }
 {
     write!(text, "proc {} parent {}", pid.0, proc.parent.0)?;
+    put_end(text, proc)
+}
+
+/// Appends what follows the number and the parent of a process.
+fn put_end(text: &mut String, proc: &Proc) -> Result<(), AllocError>
+    ensures { OnOk result
+        (string_bytes text.new ≡ string_bytes text.old ++ end_text proc.now.status proc.now.regs) }
+{
     match proc.status {
         Some(status) => put_status(text, status),
         None => put_run(text, &proc.regs),
