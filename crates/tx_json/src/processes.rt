@@ -49,22 +49,16 @@ fn put_slot(
         ++ process_item pid.0 (process_in (option_copied slot.entry))) }
 {
     match slot {
-        Some(proc) => put_proc(alloc, writer, pid, proc),
+        Some(proc) => {
+            begin_object(writer)?;
+            put_count(writer, "pid", u64::from(pid.0))?;
+            put_count(writer, "parent", u64::from(proc.parent.0))?;
+            put_end(writer, proc.status)?;
+            put_own(alloc, writer, proc)?;
+            end_object(writer)
+        }
         None => Ok(()),
     }
-}
-
-/// Appends a process.
-fn put_proc(alloc: Global, writer: &mut LineWriter, pid: Pid, proc: &Proc) -> Result<(), AllocError>
-    ensures { OnOk result (writer.new ≡ writer.old
-        ++ process_item pid.0 (Some (process_of proc.now))) }
-{
-    begin_object(writer)?;
-    put_count(writer, "pid", u64::from(pid.0))?;
-    put_count(writer, "parent", u64::from(proc.parent.0))?;
-    put_end(writer, proc.status)?;
-    put_own(alloc, writer, proc)?;
-    end_object(writer)
 }
 
 /// Appends how a process ended, where it did.

@@ -1,6 +1,5 @@
 //! Appends the signals of a process.
 ghost use Rattle.std.specs.Prelude.{◌≡◌, ◌++◌, OnOk};
-ghost use Rattle.tx_base.specs.declared.signals.Action.TheVariants.{Catch};
 ghost use Rattle.tx_json.specs.Signals.{action_item, actions_member, entry_item, frame_item, frames_member, queued_member, signals_members};
 ghost use Rattle.tx_proc.specs.Parts.{process_of};
 
@@ -10,7 +9,7 @@ use crate::members::{
     begin_list, begin_object, end_list, end_object, put_count, put_number, put_word,
 };
 use std::alloc::AllocError;
-use tx_base::{Action, SIGNALS, SigSet, Signo};
+use tx_base::{Action, SIGNALS, Signo};
 use tx_proc::Proc;
 use tx_signal::{Actions, Frame, Queued};
 
@@ -50,26 +49,15 @@ fn put_action(writer: &mut LineWriter, signo: Signo, action: Action) -> Result<(
             put_word(writer, "action", "ignore")?;
             end_object(writer)
         }
-        Action::Catch { point, mask } => put_catch(writer, signo, point, mask),
+        Action::Catch { point, mask } => {
+            begin_object(writer)?;
+            put_count(writer, "signo", u64::from(signo.0))?;
+            put_word(writer, "action", "catch")?;
+            put_count(writer, "point", u64::from(point))?;
+            put_set(writer, "mask", mask)?;
+            end_object(writer)
+        }
     }
-}
-
-/// Appends an action that catches a signal.
-fn put_catch(
-    writer: &mut LineWriter,
-    signo: Signo,
-    point: u32,
-    mask: SigSet,
-) -> Result<(), AllocError>
-    ensures { OnOk result (writer.new
-        ≡ writer.old ++ action_item signo.0 (Catch point mask)) }
-{
-    begin_object(writer)?;
-    put_count(writer, "signo", u64::from(signo.0))?;
-    put_word(writer, "action", "catch")?;
-    put_count(writer, "point", u64::from(point))?;
-    put_set(writer, "mask", mask)?;
-    end_object(writer)
 }
 
 /// Appends the queue, the first to be taken first.

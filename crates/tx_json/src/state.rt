@@ -3,7 +3,7 @@ ghost use Rattle.std.specs.Prelude.{◌≡◌, ◌++◌, [], OnOk};
 ghost use Rattle.tx_base.specs.Slots.{slot_at};
 ghost use Rattle.tx_change.specs.States.{state_of};
 ghost use Rattle.tx_json.specs.State.{parts_tokens, state_tokens};
-ghost use Rattle.tx_json.specs.Txns.{txns_member};
+ghost use Rattle.tx_json.specs.Txns.{mark_item, txns_member};
 ghost use Rattle.tx_live.specs.Content.{view_of};
 ghost use Rattle.tx_model.specs.View.{present};
 
@@ -11,7 +11,7 @@ use crate::descriptors::{put_descs, put_pipes};
 use crate::line::LineWriter;
 use crate::members::{begin_list, begin_object, end_list, end_object};
 use crate::processes::put_procs;
-use crate::txns::put_txn_of;
+use crate::txns::put_txn;
 use std::alloc::{AllocError, Global};
 use tx_base::Pid;
 use tx_change::Parts;
@@ -56,11 +56,33 @@ fn put_txns(writer: &mut LineWriter, machine: &Machine, width: u16) -> Result<()
     ensures { OnOk result (writer.new ≡ writer.old
         ++ txns_member width (slot_at machine.now.marks) (present (view_of machine.now)).held) }
 {
-    let marks = machine.marks();
     begin_list(writer, "txns")?;
     for done in 0..width {
-        let pid = Pid(done + 1);
-        put_txn_of(writer, marks, width, pid, machine.held(pid))?;
+        put_txn_of(writer, machine, width, Pid(done + 1))?;
     }
     end_list(writer)
+}
+
+/// Appends a starter's live transaction: none where the process has begun none. Most numbers have no
+/// mark, and are asked no more.
+fn put_txn_of(
+    writer: &mut LineWriter,
+    machine: &Machine,
+    width: u16,
+    pid: Pid,
+) -> Result<(), AllocError>
+    ensures { OnOk result (writer.new ≡ writer.old
+        ++ mark_item width (slot_at machine.now.marks) pid.0
+        ((present (view_of machine.now)).held pid.0) (slot_at machine.now.marks pid.0)) }
+{
+    let marks = machine.marks();
+    match marks.get(pid) {
+        Some(mark) => {
+            if mark.starter.0 == pid.0 {
+                return put_txn(writer, marks, width, pid, mark.defers, machine.held(pid));
+            }
+            Ok(())
+        }
+        None => Ok(()),
+    }
 }

@@ -3,7 +3,7 @@ ghost use Rattle.std.specs.Option.{option_copied};
 ghost use Rattle.std.specs.Prelude.{◌≡◌, ◌≤◌, ◌++◌, OnOk, codes, false, map, true};
 ghost use Rattle.tx_base.specs.Slots.{slot_at};
 ghost use Rattle.tx_json.specs.Each.{each_tokens};
-ghost use Rattle.tx_json.specs.Txns.{held_item, held_list, mark_item, member_item, members_list, txn_item, txn_lists};
+ghost use Rattle.tx_json.specs.Txns.{held_item, held_list, member_item, members_list, txn_item, txn_lists};
 ghost use Rattle.tx_kernel.specs.Plans.{sending_of};
 ghost use Rattle.tx_text.specs.Txns.{is_listed_in};
 
@@ -15,31 +15,8 @@ use crate::members::{
 use std::alloc::AllocError;
 use tx_base::{Mark, Pid, Sending, Slots};
 
-/// Appends a starter's live transaction, with what it holds: none where the process has begun none.
-pub fn put_txn_of(
-    writer: &mut LineWriter,
-    marks: &Slots<Mark>,
-    width: u16,
-    pid: Pid,
-    sendings: &[Sending],
-) -> Result<(), AllocError>
-    ensures { OnOk result (writer.new ≡ writer.old
-        ++ mark_item width (slot_at marks.now) pid.0 (map sending_of sendings.now)
-        (slot_at marks.now pid.0)) }
-{
-    match marks.get(pid) {
-        Some(mark) => {
-            if mark.starter.0 == pid.0 {
-                return put_txn(writer, marks, width, pid, mark.defers, sendings);
-            }
-            Ok(())
-        }
-        None => Ok(()),
-    }
-}
-
-/// Appends a transaction.
-fn put_txn(
+/// Appends a live transaction, with what it holds.
+pub fn put_txn(
     writer: &mut LineWriter,
     marks: &Slots<Mark>,
     width: u16,

@@ -13,6 +13,5 @@ loop-done-init c =
 
 pub loop-done-preserved : goal.loop-done-preserved
 loop-done-preserved c =
-    let item = rw (c.marks-marks.ensures.marks, c.held.ensures) at c.in_ok-put_txn_of.ensures in
     upto_more (λ done. mark_item c.args.width (slot_at c.args.machine.now.marks) (done + 1) ((present (view_of c.args.machine.now)).held (done + 1)) (slot_at c.args.machine.now.marks (done + 1)))
-    c.loop-done.done c.begin_list.new.writer c.loop-done.writer c.put_txn_of.new.writer c.loop-done.invariant item
+    c.loop-done.done c.begin_list.new.writer c.loop-done.writer c.put_txn_of.new.writer c.loop-done.invariant c.in_ok-put_txn_of.ensures
