@@ -1,5 +1,5 @@
 -- What a step leaves of the state as it was.
-use Rattle.std.proofs.Common.{◌≡◌, ◌≢◌, ◌⊎◌, ◌==◌, ℕ, Bool, true, false, not, List, [], ◌∷◌, ◌++◌, ◌&&◌, ◌||◌, Option, Some, None, if◌then◌else◌, is_some, refl, sym, ap, subst, ◌∙◌, eqb-true, inl, inr, true≢false}
+use Rattle.std.proofs.Common.{◌≡◌, ◌≢◌, ◌⊎◌, ◌==◌, ℕ, Bool, true, false, not, arith, List, [], ◌∷◌, ◌++◌, ◌&&◌, ◌||◌, Option, Some, None, if◌then◌else◌, is_some, refl, sym, ap, subst, ◌∙◌, eqb-true, inl, inr, true≢false}
 use Rattle.std.proofs.lemmas.Bool.{both_ways}
 use Rattle.tx_base.specs.declared.marks.Mark.{Mark}
 use Rattle.tx_base.specs.declared.names.Pid.{Pid}
@@ -30,9 +30,7 @@ use Rattle.tx_model.specs.Words.{kind_of, kind_role, processes_of, unless_refuse
 
 -- the process of an accepted step runs
 runs_if : (there runs : Bool) (rest : Option Refusal) (reply : Reply) → IsAccepted (unless_refused (if not there then Some NoProcess else (if not runs then Some NotRunning else rest)) reply) → runs ≡ true
-runs_if true true rest reply h = refl
-runs_if true false rest reply h = absurd h
-runs_if false runs rest reply h = absurd h
+runs_if there runs rest reply h = grind arith
 
 call_runs : (V : View) (p : Pid) (c : Call) → IsAccepted (answer V (Calls p c)) → is_running ((present V).procs p.0) ≡ true
 unfolding answer
@@ -44,20 +42,10 @@ delivery_runs V p signo h = runs_if (is_there V p.0) (is_running ((present V).pr
 
 -- who makes the event of a step that is no abort
 actor_in : (r : Role) (ev : Event) → actor (event_in r ev) ≡ actor ev
-actor_in Outside ev = refl
-actor_in (Within s part) ev = refl
-actor_in (Commits s) ev = refl
-actor_in (Aborts s k) ev = refl
+actor_in r ev = grind arith
 
 kind_actor : (t : Table) (p : ℕ) (step : Step) (kind : Kind) (r : Reply) (mark : Option Mark) → process_of step ≡ p → is_abort (kind_role t p kind r mark) ≡ false → actor (kind_event t p step kind mark) ≡ p
-kind_actor t p step Ordinary r mark own h = own
-kind_actor t p step (Forking c) r mark own h = own
-kind_actor t p step (Beginning defers) r None own h = refl
-kind_actor t p step (Beginning defers) r (Some m) own h = refl
-kind_actor t p step Leaving r None own h = refl
-kind_actor t p step Leaving r (Some m) own h = refl
-kind_actor t p step Aborting r None own h = refl
-kind_actor t p step Aborting r (Some m) own h = cc
+kind_actor t p step kind r mark own h = grind arith
 
 -- a step is of the transaction of its starter, if it is of one
 abbrev IsOf : ℕ → Role → Type 0
@@ -67,25 +55,7 @@ IsOf s (Commits u) = u ≡ s
 IsOf s (Aborts u k) = u ≡ s
 
 kind_starter : (t : Table) (p : ℕ) (kind : Kind) (r : Reply) (mark : Option Mark) → IsOf (starter_by p mark) (kind_role t p kind r mark)
-kind_starter t p Ordinary r None = tt
-kind_starter t p Ordinary r (Some m) = by (says_ended r) (others_open t m.starter.0 p t.width)
-  where
-    by : (ends others : Bool) → IsOf m.starter.0 (if ends then (if others then Within m.starter.0 Parks else Commits m.starter.0) else Within m.starter.0 Continues)
-    by true true = refl
-    by true false = refl
-    by false others = refl
-kind_starter t p (Forking c) r None = tt
-kind_starter t p (Forking c) r (Some m) = refl
-kind_starter t p (Beginning defers) r None = refl
-kind_starter t p (Beginning defers) r (Some m) = refl
-kind_starter t p Leaving r None = tt
-kind_starter t p Leaving r (Some m) = by (others_open t m.starter.0 p t.width)
-  where
-    by : (others : Bool) → IsOf m.starter.0 (if others then Within m.starter.0 Parks else Commits m.starter.0)
-    by true = refl
-    by false = refl
-kind_starter t p Aborting r None = tt
-kind_starter t p Aborting r (Some m) = refl
+kind_starter t p kind r mark = grind arith
 
 step_starter : (V : View) (step : Step) → IsOf (starter_of V.table step) (role_on V step)
 step_starter V (Calls p c) = kind_starter V.table p.0 (kind_of c) (first_reply V (Calls p c)) (V.table.marks p.0)
@@ -94,61 +64,11 @@ step_starter V (KernelAbort s) = refl
 
 -- what aborts is the kernel's abort, or a member's
 aborting : (t : Table) (p : ℕ) (kind : Kind) (r : Reply) (mark : Option Mark) → is_abort (kind_role t p kind r mark) ≡ true → (kind ≡ Aborting) × (is_some mark ≡ true)
-aborting t p Ordinary r None h = cc
-aborting t p Ordinary r (Some m) h = absurd (by (says_ended r) (others_open t m.starter.0 p t.width) h)
-  where
-    by : (ends others : Bool) → is_abort (if ends then (if others then Within m.starter.0 Parks else Commits m.starter.0) else Within m.starter.0 Continues) ≡ true → ⊥
-    by true true h = cc
-    by true false h = cc
-    by false others h = cc
-aborting t p (Forking c) r None h = cc
-aborting t p (Forking c) r (Some m) h = cc
-aborting t p (Beginning defers) r None h = cc
-aborting t p (Beginning defers) r (Some m) h = cc
-aborting t p Leaving r None h = cc
-aborting t p Leaving r (Some m) h = absurd (by (others_open t m.starter.0 p t.width) h)
-  where
-    by : (others : Bool) → is_abort (if others then Within m.starter.0 Parks else Commits m.starter.0) ≡ true → ⊥
-    by true h = cc
-    by false h = cc
-aborting t p Aborting r None h = cc
-aborting t p Aborting r (Some m) h = (refl, refl)
+aborting t p kind r mark h = grind arith
 
 xabort_place : (t : Table) (p : Pid) (c : Call) → kind_of c ≡ Aborting → is_some (t.marks p.0) ≡ true → has_place t (Calls p c) ≡ true
-xabort_place t p (call.Map a) is some = cc
-xabort_place t p (call.Unmap a) is some = cc
-xabort_place t p (call.Protect a b) is some = cc
-xabort_place t p (call.Store a b) is some = cc
-xabort_place t p (call.Load a) is some = cc
-xabort_place t p (call.Fork c) is some = cc
-xabort_place t p (call.Exit status) is some = cc
-xabort_place t p (call.Waitpid a b) is some = cc
-xabort_place t p call.Getpid is some = cc
-xabort_place t p call.Getppid is some = cc
-xabort_place t p (call.Setuid a) is some = cc
-xabort_place t p (call.Seteuid a) is some = cc
-xabort_place t p (call.Setgid a) is some = cc
-xabort_place t p (call.Setegid a) is some = cc
-xabort_place t p (call.Pipe q r w) is some = cc
-xabort_place t p (call.Dup a) is some = cc
-xabort_place t p (call.Dup2 a b) is some = cc
-xabort_place t p (call.Close a) is some = cc
-xabort_place t p (call.SetNonblock a b) is some = cc
-xabort_place t p (call.Read a b c) is some = cc
-xabort_place t p (call.Write a b c) is some = cc
-xabort_place t p (call.Kill a b) is some = cc
-xabort_place t p (call.Sigqueue a b c) is some = cc
-xabort_place t p (call.Sigaction a b) is some = cc
-xabort_place t p (call.Sigprocmask a b) is some = cc
-xabort_place t p call.Sigpending is some = cc
-xabort_place t p call.Sigreturn is some = cc
-xabort_place t p (call.ConsoleWrite a b) is some = cc
-xabort_place t p (call.Jump a b) is some = cc
-xabort_place t p (call.Keep a) is some = cc
-xabort_place t p call.SysXbegin is some = cc
-xabort_place t p call.SysXbeginDefer is some = cc
-xabort_place t p call.SysXend is some = cc
 xabort_place t p call.SysXabort is some = some
+xabort_place t p c is some = cc
 
 abort_place : (V : View) (step : Step) → is_abort (role_on V step) ≡ true → has_place V.table step ≡ true
 abort_place V (Calls p c) h =
@@ -162,17 +82,10 @@ abort_place V (Deliver p signo) h =
 abort_place V (KernelAbort s) h = refl
 
 equal_trans : (R S T : State) (o : Object) → EqualAt R S o → EqualAt S T o → EqualAt R T o
-equal_trans R S T (Proc n) a b = a ∙ b
-equal_trans R S T (Desc n) a b = a ∙ b
-equal_trans R S T (Pipe n) a b = a ∙ b
-equal_trans R S T (Held n) a b = a ∙ b
+equal_trans R S T o a b = grind arith
 
 none_left : (n s : ℕ) → (if n == s then false else false) ≡ false
-none_left n s = by (n == s)
-  where
-    by : (b : Bool) → (if b then false else false) ≡ false
-    by true = refl
-    by false = refl
+none_left n s = grind arith
 
 -- no abort is made on the state as it is
 made_on : (V : View) (r : Role) (ev : Event) → is_abort r ≡ false → (if is_left_in r nobody then after ev (V.without (left_out_before r nobody)) else V.without (left_out_before r nobody)) ≡ after ev (present V)
@@ -291,42 +204,22 @@ module _ (laws : ReachLaws) where
 
 -- a mark that is none of s
 none_own : (s : ℕ) (mark : Option Mark) → is_of s mark ≡ false → own_mark s mark ≡ None
-none_own s None h = refl
-none_own s (Some m) h = ap (λ (b : Bool). if b then Some m else None) h
+none_own s mark h = grind arith
 
 not_both : (s u : ℕ) (mark : Option Mark) → u ≢ s → is_of u mark ≡ true → is_of s mark ≡ false
-not_both s u None other h = refl
-not_both s u (Some m) other h = by (m.starter.0 == s) refl
-  where
-    by : (b : Bool) → (m.starter.0 == s) ≡ b → b ≡ false
-    by true is = absurd (other (sym (eqb-true m.starter.0 u h) ∙ eqb-true m.starter.0 s is))
-    by false is = refl
+not_both s u mark other h = grind arith
 
 new_other : (s u : ℕ) (defers : Bool) → u ≢ s → own_mark s (Some (new_mark u defers)) ≡ None
-new_other s u defers other = by (u == s) refl
-  where
-    by : (b : Bool) → (u == s) ≡ b → (if b then Some (new_mark u defers) else None) ≡ None
-    by true is = absurd (other (eqb-true u s is))
-    by false is = refl
+new_other s u defers other = grind arith
 
 parked_other : (s : ℕ) (mark : Option Mark) → is_of s mark ≡ false → own_mark s (parked_mark mark) ≡ own_mark s mark
-parked_other s None h = refl
-parked_other s (Some m) h = ap (λ (b : Bool). if b then Some (record m { ended = true }) else None) h ∙ sym (ap (λ (b : Bool). if b then Some m else None) h)
+parked_other s mark h = grind arith
 
 unmarked_other : (s u : ℕ) (mark : Option Mark) → u ≢ s → own_mark s (mark_unless_of u mark) ≡ own_mark s mark
-unmarked_other s u None other = refl
-unmarked_other s u (Some m) other = by (m.starter.0 == u) refl
-  where
-    by : (b : Bool) → (m.starter.0 == u) ≡ b → own_mark s (if b then None else Some m) ≡ own_mark s (Some m)
-    by true is = sym (none_own s (Some m) (not_both s u (Some m) other is))
-    by false is = refl
+unmarked_other s u mark other = grind arith
 
 put_other : (s k : ℕ) (marks : ℕ → Option Mark) (mark : Option Mark) → own_mark s mark ≡ own_mark s (marks k) → (n : ℕ) → own_mark s (if n == k then mark else marks n) ≡ own_mark s (marks n)
-put_other s k marks mark same n = by (n == k) refl
-  where
-    by : (b : Bool) → (n == k) ≡ b → own_mark s (if b then mark else marks n) ≡ own_mark s (marks n)
-    by true at = same ∙ ap (λ (m : ℕ). own_mark s (marks m)) (sym (eqb-true n k at))
-    by false at = refl
+put_other s k marks mark same n = grind arith
 
 -- the step is of no transaction of s
 abbrev IsApart : ℕ → Role → Type 0
@@ -364,23 +257,10 @@ held_sent s (m ∷ ms) h = held_sent s ms h
 
 -- an event of a step holds for its own transaction alone
 kind_holds : (s : ℕ) (t : Table) (p : ℕ) (step : Step) (kind : Kind) (mark : Option Mark) → HoldsFor s (kind_event t p step kind mark) → s ≡ starter_by p mark
-kind_holds s t p step Ordinary None h = absurd h
-kind_holds s t p step Ordinary (Some m) h = sym h
-kind_holds s t p step (Forking c) None h = absurd h
-kind_holds s t p step (Forking c) (Some m) h = sym h
-kind_holds s t p step (Beginning defers) None h = absurd h
-kind_holds s t p step (Beginning defers) (Some m) h = absurd h
-kind_holds s t p step Leaving None h = absurd h
-kind_holds s t p step Leaving (Some m) h = absurd h
-kind_holds s t p step Aborting None h = absurd h
-kind_holds s t p step Aborting (Some m) h = absurd h
+kind_holds s t p step kind mark h = grind arith
 
 role_holds : (s own : ℕ) (r : Role) (made : Event) → IsOf own r → (HoldsFor s made → s ≡ own) → HoldsFor s (event_in r made) → s ≡ own
-role_holds s own Outside made of its h = its h
-role_holds s own (Within u part) made of its h = its h
-role_holds s own (Commits u) made of its (inl same) = same ∙ of
-role_holds s own (Commits u) made of its (inr h) = its h
-role_holds s own (Aborts u k) made of its h = its h
+role_holds s own r made of its h = grind arith
 
 step_holds : (V : View) (step : Step) (s : ℕ) → HoldsFor s (event_on V step) → s ≡ starter_of V.table step
 step_holds V (Calls p c) s h =
