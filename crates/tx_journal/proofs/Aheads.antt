@@ -1,5 +1,5 @@
 -- What makes the entries of a session again that were taken back.
-use Rattle.std.proofs.Common.{◌≡◌, ℕ, ◌+◌, ◌<◌, ◌≤◌, List, [], ◌∷◌, ◌++◌, length, length-append, map, reverse, take, drop, get_or, Some, None, slice_get, ◌⊎◌, inl, inr, Bool, true, false, Result, Ok, Err, OnOk, OnErr, arith, refl, sym, ap, subst, ◌∙◌}
+use Rattle.std.proofs.Common.{◌≡◌, ℕ, ◌+◌, ◌<◌, ◌≤◌, List, [], ◌∷◌, ◌++◌, length, length-append, map, reverse, take, drop, get_or, Some, None, slice_get, ◌⊎◌, inl, inr, Bool, true, false, Result, OnOk, OnErr, arith, refl, sym, ap, subst, ◌∙◌}
 use Rattle.std.proofs.lemmas.List.{drop_all, drop_more}
 use Rattle.std.proofs.lemmas.Option.{slice_get_cases}
 use Rattle.tx_base.specs.declared.steps.Accepted.{Accepted}
@@ -33,22 +33,16 @@ none_on start k (u ∷ us) stack made walks = absurd walks
 
 -- at the end of the journal nothing is
 pub none_at_end : (k : SessionState) (undone : List Undone) (stack : List Change) → IsAtEnd k → IsAhead k undone stack → undone ≡ []
-none_at_end k undone stack at_end ahead =
-    none_on (start_of k) k.machine undone stack (history_of (made_of k)) (subst (WalksOn (start_of k) k.machine undone stack (history_of (made_of k))) none ahead)
-  where
-    none : later_of k ≡ []
-    none = ap (map accepted_of) (drop_all (position_of k) k.entries (omega (arith, at_end)))
+none_at_end k undone stack at_end ahead = grind (arith, drop_all, none_on)
 
 -- nor after a step there
 pub none_after : (machine : Content) (j : Journal) (entry : Entry) (new : Content) (after : Journal) (made : Bool) → j.crossings.undone ≡ [] → (made ≡ true → IsAdded machine j entry new after) → (made ≡ false → SameRecord after j) →
     after.crossings.undone ≡ []
-none_after machine j entry new after true none added stays = (added refl).undone
-none_after machine j entry new after false none added stays = (stays refl).crossings.undone ∙ none
+none_after machine j entry new after made none added stays = grind arith
 
 pub none_answered : {T E : Type 0} (machine : Content) (j : Journal) (entry : Entry) (new : Content) (after : Journal) (r : Result T E) → j.crossings.undone ≡ [] → OnOk r (IsAdded machine j entry new after) → OnErr r (after ≡ j) →
     after.crossings.undone ≡ []
-none_answered machine j entry new after (Ok x) none added stays = added.undone
-none_answered machine j entry new after (Err x) none added stays = ap (λ (a : Journal). a.crossings.undone) stays ∙ none
+none_answered machine j entry new after r none added stays = grind arith
 
 -- the next entry, and what what makes it again leads to
 pub record NextAhead (k : SessionState) (undone : Undone) (rest : List Undone) (stack : List Change) : Type 0 where
@@ -80,11 +74,7 @@ next_ahead k undone rest last stack is ahead = by (slice_get_cases k.entries (po
 -- a session that made the next entry again
 pub ahead_next : (k : SessionState) → IsJournal k → (last : Undone) (rest : List Undone) (stack : List Change) (next : NextAhead k last rest stack) (new : Content) (inverse : Inverse) (now : List Inverse) (left : List Change) →
     new ≡ next.after → now ≡ k.inverses ++ inverse ∷ [] → left ≡ next.below → IsAhead (record { machine = new; entries = k.entries; inverses = now; width = k.width; count = k.count }) rest left
-ahead_next k is last rest stack next new inverse now left new_is now_is left_is =
-    subst (λ (n : ℕ). WalksOn (start_of k) new rest left (history_of (take n k.entries)) (map accepted_of (drop n k.entries))) (sym (ap length now_is ∙ length-append k.inverses (inverse ∷ [])))
-    (subst (λ (h : List Accepted). WalksOn (start_of k) new rest left h (map accepted_of (drop (position_of k + 1) k.entries))) (sym (next_history k is next.entry next.next))
-    (subst (λ (c : Content). WalksOn (start_of k) c rest left (accepted_of next.entry ∷ history_of (made_of k)) (map accepted_of (drop (position_of k + 1) k.entries))) (sym new_is)
-    (subst (λ (cs : List Change). WalksOn (start_of k) next.after rest cs (accepted_of next.entry ∷ history_of (made_of k)) (map accepted_of (drop (position_of k + 1) k.entries))) (sym left_is) next.on)))
+ahead_next k is last rest stack next new inverse now left new_is now_is left_is = grind (arith, length-append, next_history)
 
 -- a session that went back by an entry
 module _ (k : SessionState) (is : IsJournal k) (before : List Inverse) (inverse : Inverse) (parts : k.inverses ≡ before ++ inverse ∷ []) (new : Content) where

@@ -1,5 +1,5 @@
 -- A session as it boots, and what its readers say.
-use Rattle.std.proofs.Common.{◌≡◌, ℕ, zero, suc, ◌≤◌, [], ◌∷◌, List, length, arith, refl, ap}
+use Rattle.std.proofs.Common.{◌≡◌, ℕ, zero, suc, ◌≤◌, [], List, arith, refl}
 use Rattle.tx_core.specs.Machines.{IsWidth}
 use Rattle.tx_journal.specs.Entries.{history_of}
 use Rattle.tx_journal.specs.Lives.{lives, lives_to}
@@ -25,21 +25,15 @@ module _ (machine : Content) (width count : ℕ) where
   starts : (es : List Entry) → es ≡ [] → (is : List Inverse) → is ≡ [] → 1 ≤ count → count ≤ width → IsWidth width → view_of machine ≡ view (boot_state width count) [] →
       IsJournal (record { machine = machine; entries = es; inverses = is; width = width; count = count })
   unfolding Lawful WalksBack
-  starts [] none [] nothing low high wide seen = record { low = low; high = high; wide = wide; few = omega arith; lawful = tt; walks = seen }
-  starts [] none (i ∷ is) nothing low high wide seen = cc
-  starts (e ∷ es) none is nothing low high wide seen = cc
+  starts es none is nothing low high wide seen = grind arith
 
   starts_counted : (es : List Entry) → es ≡ [] → lives (table_of (boot_state width count) (history_of es)) ≤ 0
   unfolding table_of
-  starts_counted [] none = let zero_live : lives_to (empty_table width) width ≡ 0 = none_live width width in omega (arith, zero_live)
-  starts_counted (e ∷ es) none = cc
+  starts_counted es none = grind (arith, none_live)
 
   pub journal_starts : (j : Journal) → j.entries.items ≡ [] → j.crossings.inverses ≡ [] → 1 ≤ count → count ≤ width → IsWidth width → view_of machine ≡ view (boot_state width count) [] →
       IsJournal (session_state machine j width count)
   journal_starts j entries inverses low high wide seen = starts j.entries.items entries j.crossings.inverses inverses low high wide seen
 
   pub room_starts : (j : Journal) → j.entries.items ≡ [] → j.live ≡ 0 → (room places : ℕ) → HasRoom (session_state machine j width count) j.live room places
-  room_starts j entries live room places =
-      let counted : lives (table_of (boot_state width count) (history_of j.entries.items)) ≤ 0 = starts_counted j.entries.items entries in
-      let none : length j.entries.items ≡ 0 = ap length entries in
-      record { counted = omega (arith, counted); entries = omega (arith, none, live); inverses = omega (arith, none, live) }
+  room_starts j entries live room places = grind (arith, starts_counted)

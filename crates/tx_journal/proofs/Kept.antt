@@ -1,5 +1,5 @@
 -- What a session keeps after a step.
-use Rattle.std.proofs.Common.{◌≡◌, ℕ, ◌+◌, ◌≤◌, ◌∷◌, Bool, true, false, List, Result, Ok, Err, OnOk, OnErr, length, refl, sym, ap, subst, ◌∙◌}
+use Rattle.std.proofs.Common.{◌≡◌, ℕ, ◌≤◌, ◌∷◌, Bool, true, false, List, Result, OnOk, OnErr, sym, ap, subst, ◌∙◌, arith}
 use Rattle.std.specs.Prelude.{vec_capacity}
 use Rattle.tx_base.specs.declared.steps.Accepted.{Accepted}
 use Rattle.tx_journal.proofs.Extended.{history_more, journal_more, more, seen_at_end}
@@ -42,17 +42,7 @@ module _ (laws : SessionLaws) (machine : Content) (j : Journal) (width count : �
 
   -- where nothing was added
   pub kept_same : (new : Content) (after : Journal) → new ≡ machine → SameRecord after j → IsCounted machine after → IsKeptSo new after width count
-  kept_same new after same stays counted =
-      let back : session_state machine j width count ≡ session_state new after width count
-      = λ i. record { machine = sym same i; entries = sym stays.entries i; inverses = sym stays.crossings.inverses i; width = width; count = count } in (
-        subst IsJournal back is.0,
-        subst (λ (k : SessionState). HasRoom k after.live (vec_capacity after.entries) after.crossings.room) back
-            (record {
-              counted = subst (λ (t : Table). lives t ≤ after.live) (table_seen (session_state machine j width count) seen) counted.lives;
-              entries = subst (λ (xs : List Entry). length xs + after.live ≤ vec_capacity after.entries) stays.entries counted.places.entries;
-              inverses = subst (λ (xs : List Entry). length xs + after.live ≤ after.crossings.room) stays.entries counted.places.inverses;
-            }),
-      )
+  kept_same new after same stays counted = grind arith
 
   -- where an entry was added
   pub kept_more : (entry : Entry) (new : Content) (after : Journal) → IsAdded machine j entry new after →
@@ -77,13 +67,10 @@ module _ (laws : SessionLaws) (machine : Content) (j : Journal) (width count : �
       (made ≡ false → IsCounted machine after) →
       (made ≡ true → (start : State) (earlier : List Accepted) → Lawful start earlier → view_of machine ≡ view start earlier → Lawful start (accepted_of entry ∷ earlier) × (view_of new ≡ view start (accepted_of entry ∷ earlier))) →
       IsKeptSo new after width count
-  kept_after entry new after true added same stays counted along = kept_more entry new after (added refl) (along refl)
-  kept_after entry new after false added same stays counted along = kept_same new after (same refl) (stays refl) (counted refl)
+  kept_after entry new after made added same stays counted along = grind (arith, kept_more, kept_same)
 
   -- the same, as it is answered
   pub kept_answered : {T E : Type 0} (entry : Entry) (new : Content) (after : Journal) (r : Result T E) → OnOk r (IsAdded machine j entry new after) → OnErr r (new ≡ machine) → OnErr r (after ≡ j) →
       OnOk r ((start : State) (earlier : List Accepted) → Lawful start earlier → view_of machine ≡ view start earlier → Lawful start (accepted_of entry ∷ earlier) × (view_of new ≡ view start (accepted_of entry ∷ earlier))) →
       IsKeptSo new after width count
-  kept_answered entry new after (Ok x) added same stays along = kept_more entry new after added along
-  kept_answered entry new after (Err x) added same stays along =
-      subst (λ (c : Content). IsKeptSo c after width count) (sym same) (subst (λ (a : Journal). IsKeptSo machine a width count) (sym stays) is)
+  kept_answered entry new after r added same stays along = grind (arith, kept_more)

@@ -1,12 +1,13 @@
 -- The room of a journal as a step is made, and what is counted then.
-use Rattle.std.proofs.Common.{◌≡◌, ℕ, ◌+◌, ◌<◌, ◌≤◌, ◌⊎◌, inl, inr, Bool, true, false, [], ◌∷◌, ◌++◌, length, arith, sym, ap, subst, ◌∙◌, length-append}
+use Rattle.std.proofs.Common.{◌≡◌, ℕ, ◌+◌, ◌<◌, ◌≤◌, Bool, true, [], ◌∷◌, ◌++◌, length, arith, sym, ap, subst, ◌∙◌, length-append}
 use Rattle.std.specs.Prelude.{vec_capacity}
 use Rattle.tx_base.specs.declared.steps.Reply.{Reply}
 use Rattle.tx_base.specs.declared.steps.Step.{Step}
 use Rattle.tx_core.specs.Undo.{LeadsBack}
 use Rattle.tx_journal.proofs.After.{aborts_is, aborts_was, lives_after, lives_some}
+use Rattle.tx_journal.proofs.Lives.{one_most}
 use Rattle.tx_journal.specs.Laws.{SessionLaws}
-use Rattle.tx_journal.specs.Lives.{has_place, lives, one_if, starter_of}
+use Rattle.tx_journal.specs.Lives.{lives, one_if, starter_of}
 use Rattle.tx_journal.specs.Rooms.{IsAdded, IsCounted, IsReady}
 use Rattle.tx_journal.specs.declared.entry.Entry.{Entry}
 use Rattle.tx_journal.specs.declared.journal.Journal.{Journal}
@@ -31,25 +32,11 @@ module _ (laws : SessionLaws) (old new : Content) (j : Journal) (step : Step) (r
 
   -- where the starter is live, so is one that is counted
   some : is_live (view_of old).table (starter_of (view_of old).table step) ≡ true → 1 ≤ j.live
-  some live =
-      let one : 1 ≤ lives (view_of old).table = lives_some (view_of old) (starter_of (view_of old).table step) sound live in
-      let most : lives (view_of old).table ≤ j.live = counted.lives in
-      omega (arith, one, most)
+  some live = grind (arith, lives_some)
 
   -- there is room for its entry, and for what takes it back
   room : (length j.entries.items < vec_capacity j.entries) × (length j.entries.items < j.crossings.room)
-  room = by ready
-    where
-      by : IsReady (view_of old).table step j → (length j.entries.items < vec_capacity j.entries) × (length j.entries.items < j.crossings.room)
-      by (inl (places, few)) =
-          let a : length j.entries.items + (j.live + 2) ≤ vec_capacity j.entries = places.entries in
-          let b : length j.entries.items + (j.live + 2) ≤ j.crossings.room = places.inverses in
-          (omega (arith, a), omega (arith, b))
-      by (inr (places, has)) =
-          let one : 1 ≤ j.live = some (aborts_was (view_of old) step has fits) in
-          let a : length j.entries.items + j.live ≤ vec_capacity j.entries = places.entries in
-          let b : length j.entries.items + j.live ≤ j.crossings.room = places.inverses in
-          (omega (arith, a, one), omega (arith, b, one))
+  room = grind (arith, aborts_was, fits, some)
 
   pub room_entries : length j.entries.items < vec_capacity j.entries
   room_entries = room.0
@@ -68,24 +55,12 @@ module _ (laws : SessionLaws) (old new : Content) (j : Journal) (step : Step) (r
     live_some h = some (sym was_live ∙ h)
 
     bound : lives (next (view_of old) step).table + one_if was ≤ lives (view_of old).table + one_if is
-    bound =
-        let whole = lives_after (view_of old) step sound (laws.next (view_of old) step sound accepted) in
-        subst (λ (b : Bool). lives (next (view_of old) step).table + one_if was ≤ lives (view_of old).table + one_if b) (sym now_live)
-        (subst (λ (b : Bool). lives (next (view_of old) step).table + one_if b ≤ lives (view_of old).table + one_if (is_live (next (view_of old) step).table (starter_of (view_of old).table step))) (sym was_live) whole)
-
-    one_most : (b : Bool) → one_if b ≤ 1
-    one_most true = omega arith
-    one_most false = omega arith
+    bound = grind (arith, accepted, lives_after, now_live, was_live)
 
     -- how much room an entry more leaves, where so many are counted then
-    left : (live : ℕ) → live + one_if was ≡ j.live + one_if is → (room : ℕ) →
-        ((length j.entries.items + (j.live + 2) ≤ room) ⊎ ((length j.entries.items + j.live ≤ room) × (has_place (view_of old).table step ≡ true))) →
-        (length j.entries.items + 1) + live ≤ room
-    left live same room (inl places) = let most : one_if is ≤ 1 = one_most is in omega (arith, same, places, most)
-    left live same room (inr (places, has)) =
-        let gone : one_if is ≡ 0 = ap one_if (now_live ∙ aborts_is (view_of old) step has) in
-        let there : one_if was ≡ 1 = ap one_if (was_live ∙ aborts_was (view_of old) step has fits) in
-        omega (arith, same, places, gone, there)
+    left : (live : ℕ) → live + one_if was ≡ j.live + one_if is →
+        ((length j.entries.items + 1) + live ≤ vec_capacity j.entries) × ((length j.entries.items + 1) + live ≤ j.crossings.room)
+    left live same = grind (arith, aborts_is, aborts_was, fits, now_live, one_most, was_live)
 
     pub added : (entry : Entry) (after : Journal) → LeadsBack new inverse → after.entries.items ≡ j.entries.items ++ entry ∷ [] → after.crossings.inverses ≡ j.crossings.inverses ++ inverse ∷ [] → after.crossings.undone ≡ [] →
         vec_capacity after.entries ≡ vec_capacity j.entries → after.crossings.room ≡ j.crossings.room → after.live + one_if was ≡ j.live + one_if is →
@@ -99,24 +74,10 @@ module _ (laws : SessionLaws) (old new : Content) (j : Journal) (step : Step) (r
       undoes = made.back;
       whole = made.whole;
       counted = record {
-        lives = subst (λ (V : View). lives V.table ≤ after.live) (sym made.next) less;
-        places = record { entries = here (vec_capacity after.entries) (by_entries ready); inverses = here (after.crossings.room) (by_inverses ready) };
+        lives = grind (arith, bound);
+        places = record { entries = omega (arith, longer, (left after.live live).0, cap); inverses = omega (arith, longer, (left after.live live).1, places) };
       };
     }
       where
-        less : lives (next (view_of old) step).table ≤ after.live
-        less = let most : lives (view_of old).table ≤ j.live = counted.lives in let b = bound in omega (arith, most, b, live)
-
         longer : length after.entries.items ≡ length j.entries.items + 1
         longer = ap length entries ∙ length-append j.entries.items (entry ∷ [])
-
-        here : (room : ℕ) → ((length j.entries.items + (j.live + 2) ≤ room) ⊎ ((length j.entries.items + j.live ≤ room) × (has_place (view_of old).table step ≡ true))) → length after.entries.items + after.live ≤ room
-        here room ready = let a = left after.live live room ready in omega (arith, a, longer)
-
-        by_entries : IsReady (view_of old).table step j → (length j.entries.items + (j.live + 2) ≤ vec_capacity after.entries) ⊎ ((length j.entries.items + j.live ≤ vec_capacity after.entries) × (has_place (view_of old).table step ≡ true))
-        by_entries (inl (p, few)) = let a = p.entries in inl (omega (arith, a, cap))
-        by_entries (inr (p, has)) = let a = p.entries in inr (omega (arith, a, cap), has)
-
-        by_inverses : IsReady (view_of old).table step j → (length j.entries.items + (j.live + 2) ≤ after.crossings.room) ⊎ ((length j.entries.items + j.live ≤ after.crossings.room) × (has_place (view_of old).table step ≡ true))
-        by_inverses (inl (p, few)) = let a = p.inverses in inl (omega (arith, a, places))
-        by_inverses (inr (p, has)) = let a = p.inverses in inr (omega (arith, a, places), has)

@@ -4,14 +4,13 @@ use Rattle.std.proofs.lemmas.Bool.{ltb-false}
 use Rattle.std.proofs.lemmas.List.{append_assoc, append-nil, length-drop, length-take-le, map-append, reverse-append, take_all, take-append-drop}
 use Rattle.std.proofs.lemmas.Option.{slice_get_cases}
 use Rattle.tx_base.specs.declared.steps.Accepted.{Accepted}
-use Rattle.tx_journal.proofs.Noting.{history_length}
-use Rattle.tx_journal.proofs.Walked.{history_to}
+use Rattle.tx_journal.proofs.Walked.{history_length, history_to}
 use Rattle.tx_journal.specs.Entries.{accepted_of, entry_at, history_of}
 use Rattle.tx_journal.specs.Moved.{IsMoved, Numbers, Told, entries_named, moved_at, moved_numbers, numbers_above, numbers_parted, told_by, told_in, told_of, with_other_number, with_own_number}
 use Rattle.tx_journal.specs.Sessions.{SessionState, start_of}
 use Rattle.tx_journal.specs.declared.entry.Entry.{Entry}
 use Rattle.tx_journal.specs.declared.moved.Moved.{Moved}
-use Rattle.tx_laws.specs.OneMoment.{Parted, begins_it, is_step_of, is_one_moment, moved_history, moved_to, parted, with_other, with_own}
+use Rattle.tx_laws.specs.OneMoment.{Parted, begins_it, is_step_of, is_one_moment, moved_history, parted, with_other, with_own}
 use Rattle.tx_model.specs.History.{role_in}
 use Rattle.tx_model.specs.Membership.{Role, Outside, Within, Commits, Aborts}
 use Rattle.tx_model.specs.State.{State}
@@ -63,28 +62,7 @@ parts_named name S s (e ∷ h) are = begins (parts_named name S s h are.1) (begi
 moved_named : (name : ℕ → Option Accepted) (S : State) (s : ℕ) (later : List Accepted) (e : Accepted) (h : List Accepted) → Names name (later ++ e ∷ h) →
     map name (moved_numbers S s later h) ≡ map Some (moved_history S s later e h)
 unfolding Names
-moved_named name S s later e h are =
-    map-append name (numbers_above (suc (length h)) (length later) ++ suc (length h) ∷ n.own) n.others
-    ∙ (λ j. map-append name (numbers_above (suc (length h)) (length later)) (suc (length h) ∷ n.own) j ++ named.others j)
-    ∙ (λ j. newest_named name later (e ∷ h) are j ++ own j ++ map Some p.others)
-    ∙ append_assoc (map Some later) (map Some (e ∷ p.own)) (map Some p.others)
-    ∙ ap (λ (xs : List (Option Accepted)). map Some later ++ xs) (sym (map-append Some (e ∷ p.own) p.others))
-    ∙ sym (map-append Some later (moved_to S s e h))
-  where
-    n : Numbers
-    n = numbers_parted S s h
-
-    p : Parted
-    p = parted S s h
-
-    here : Names name (e ∷ h)
-    here = names_earlier name later (e ∷ h) are
-
-    named : AreNamed name n p
-    named = parts_named name S s h here.1
-
-    own : map name (suc (length h) ∷ n.own) ≡ map Some (e ∷ p.own)
-    own = λ j. here.0 j ∷ named.own j
+moved_named name S s later e h are = grind (arith, append_assoc, map-append, names_earlier, newest_named, parts_named)
 
 -- the names of a history backward
 map_reverse : {A B : Type 0} (f : A → B) (xs : List A) → map f (reverse xs) ≡ reverse (map f xs)
@@ -147,8 +125,7 @@ module _ (k : SessionState) (number : ℕ) (m : Moved) (told : moved_at (start_o
   by_role later e earlier split place (Aborts s status) is same = cc
 
   by_parts : (later h : List Accepted) → history_of k.entries ≡ later ++ h → length h ≡ number → told_of start later h ≡ Some (told_in m) → IsMoved k number m
-  by_parts later [] split place same = cc
-  by_parts later (e ∷ earlier) split place same = by_role later e earlier split place (role_in start e earlier) refl same
+  by_parts later h split place same = grind (arith, by_role)
 
   pub is_moved : IsMoved k number m
   is_moved = by (nat_lt (length h) number) refl told

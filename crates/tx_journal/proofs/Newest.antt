@@ -1,16 +1,13 @@
 -- The newest step before which an object was not reserved, as far as it is sought.
-use Rattle.std.proofs.Common.{◌≡◌, ◌⊎◌, inl, inr, ℕ, suc, ◌+◌, ◌<◌, ◌≤◌, Bool, true, false, List, [], ◌∷◌, Option, Some, None, length, map, reverse, take, get_or, slice_get, if◌then◌else◌, arith, sym, ap, ◌∙◌, add-one}
-use Rattle.std.proofs.lemmas.List.{length-map, length-reverse, length-take-le, reverse-append, take_more}
+use Rattle.std.proofs.Common.{◌≡◌, ◌⊎◌, inl, inr, ℕ, suc, ◌+◌, ◌<◌, ◌≤◌, Bool, true, false, List, [], ◌∷◌, Option, Some, None, length, reverse, take, get_or, slice_get, if◌then◌else◌, arith, sym, ap, ◌∙◌, add-one}
+use Rattle.std.proofs.lemmas.List.{length-take-le, reverse-append, take_more}
 use Rattle.std.proofs.lemmas.Option.{slice_get_cases}
-use Rattle.tx_journal.proofs.Walked.{history_to}
+use Rattle.tx_journal.proofs.Walked.{history_length, history_to}
 use Rattle.tx_journal.specs.Entries.{accepted_of, history_of}
 use Rattle.tx_journal.specs.Since.{comes_first, newest_first, Numbered}
 use Rattle.tx_model.specs.State.{Object}
 use Rattle.tx_journal.specs.declared.entry.Entry.{Entry}
 use Rattle.tx_live.specs.declared.inverse.Inverse.{Inverse}
-
-history_length : (entries : List Entry) (i : ℕ) → i ≤ length entries → length (history_of (take i entries)) ≡ i
-history_length entries i few = length-reverse (map accepted_of (take i entries)) ∙ length-map (take i entries) accepted_of ∙ length-take-le i entries few
 
 -- what stands at a place
 pub there : {X : Type 0} (xs : List X) (i : ℕ) → i < length xs → (x : X) × (slice_get xs i ≡ Some x) × (get_or xs i x ≡ x)
@@ -29,7 +26,7 @@ module _ (s : ℕ) (o : Object) (inverses : List Inverse) (entries : List Entry)
   step_more = history_to entries i entry (omega (arith, inside, few)) ∙ ap (λ (it : Entry). accepted_of it ∷ history_of (take i entries)) entry_is
 
   count : suc (length (history_of (take i entries))) ≡ i + 1
-  count = ap suc (history_length entries i (omega (arith, inside, few))) ∙ sym (add-one i)
+  count = ap suc (history_length (take i entries) ∙ length-take-le i entries (omega (arith, inside, few))) ∙ sym (add-one i)
 
   newest_then : newest_first s o (reverse (take (i + 1) inverses)) (history_of (take (i + 1) entries)) ≡ (if comes_first s o inverse then Some (record { number = i + 1; step = entry.step }) else found)
   unfolding newest_first

@@ -1,5 +1,5 @@
 -- The note of a step on the view is that of the step in its history.
-use Rattle.std.proofs.Common.{◌≡◌, ℕ, Bool, List, ◌∷◌, Option, Some, None, refl, sym, ap, ◌∙◌, subst}
+use Rattle.std.proofs.Common.{◌≡◌, ℕ, Bool, List, ◌∷◌, Option, sym, ap, ◌∙◌, subst, arith}
 use Rattle.tx_base.specs.declared.steps.Accepted.{Accepted}
 use Rattle.tx_base.specs.declared.steps.Reply.{Reply}
 use Rattle.tx_base.specs.declared.steps.Step.{Step}
@@ -18,8 +18,7 @@ use Rattle.tx_journal.specs.declared.notes.Note.{Note}
 -- whether it tells a moment, by its posts
 tells_same : (S : State) (e : Accepted) (h : List Accepted) (starter : Option ℕ) →
     tells_by starter (process_of e.step) (looks_at_signals e.step) (effect (event_of S e h) (without S nobody h)).sends ≡ tells_of starter S e h
-tells_same S e h None = refl
-tells_same S e h (Some s) = refl
+tells_same S e h starter = grind arith
 
 pub note_in : (S : State) (e : Accepted) (h : List Accepted) (note : Note) → Lawful S (e ∷ h) → IsNoteOn (view S h) e.step note → IsNoteOf S e h note
 unfolding Lawful view

@@ -1,5 +1,5 @@
 -- What a step is to its transaction, by what is posted with it.
-use Rattle.std.proofs.Common.{◌≡◌, ℕ, Bool, true, false, ◌&&◌, ◌||◌, ◌==◌, ℤ, List, Some, refl, sym, ap, ◌∙◌}
+use Rattle.std.proofs.Common.{◌≡◌, ℕ, Bool, false, ◌&&◌, ◌||◌, ◌==◌, ℤ, List, Some, sym, ap, arith}
 use Rattle.tx_base.specs.declared.steps.Step.{Step}
 use Rattle.tx_laws.specs.OneMoment.{is_sent_to, looks_at_signals}
 use Rattle.tx_live.specs.Content.{content_of, now_of, view_of}
@@ -14,8 +14,7 @@ use Rattle.tx_journal.specs.declared.notes.Note.{Note}
 use Rattle.tx_txn.specs.Content.{two_states_of}
 
 pub and_false : (b : Bool) → (b && false) ≡ false
-and_false true = refl
-and_false false = refl
+and_false b = grind arith
 
 -- an abort posts nothing
 pub abort_noted : (s status : ℕ) (r : ℤ) (S : State) →
@@ -32,6 +31,4 @@ now_seen laws k = laws.present (two_states_of (content_of k))
 pub note_on : (laws : RetraceLaws) (k : Content) (step : Step) (note : Note) (role : Role) (looks : Bool) (ms : List Sending) →
     noted note ≡ noted_by role (process_of step) looks ms → role ≡ role_on (view_of k) step → looks ≡ looks_at_signals step →
     (effect (event_on (view_of k) step) (now_of k)).sends ≡ ms → IsNoteOn (view_of k) step note
-note_on laws k step note role looks ms is told looked posted =
-    is ∙ (λ j. noted_by (told j) (process_of step) (looked j) (sym posted j))
-    ∙ ap (λ (S : State). noted_by (role_on (view_of k) step) (process_of step) (looks_at_signals step) (effect (event_on (view_of k) step) S).sends) (sym (now_seen laws k))
+note_on laws k step note role looks ms is told looked posted = grind (arith, now_seen)

@@ -1,10 +1,10 @@
 -- What notes tell of a history is what the history tells.
-use Rattle.std.proofs.Common.{◌≡◌, ℕ, suc, get_or, subst, ◌+◌, ◌-◌, ◌<◌, ◌≤◌, Bool, true, false, not, ◌&&◌, List, [], ◌∷◌, ◌++◌, Option, Some, None, length, map, option_map, reverse, take, drop, nat_lt, if◌then◌else◌, arith, refl, sym, ap, ◌∙◌, eqb-true, le-ltb, lt-ltb, length-append}
+use Rattle.std.proofs.Common.{◌≡◌, ℕ, suc, get_or, subst, ◌+◌, ◌-◌, ◌<◌, ◌≤◌, Bool, true, false, not, ◌&&◌, List, [], ◌∷◌, ◌++◌, Option, None, length, option_map, take, drop, nat_lt, if◌then◌else◌, arith, refl, sym, ap, ◌∙◌, eqb-true, le-ltb, length-append}
 use Rattle.std.proofs.Math.Seq.{drop-append_seam, take-append_seam}
-use Rattle.std.proofs.lemmas.List.{length-map, length-reverse, length-take-le}
+use Rattle.std.proofs.lemmas.List.{length-take-le}
 use Rattle.tx_base.specs.declared.steps.Accepted.{Accepted}
 use Rattle.tx_journal.proofs.Parting.{back_more}
-use Rattle.tx_journal.proofs.Walked.{history_parts, history_to, lawful_to}
+use Rattle.tx_journal.proofs.Walked.{history_length, history_parts, history_to, lawful_to}
 use Rattle.tx_journal.specs.Entries.{accepted_of, history_of}
 use Rattle.tx_journal.specs.Moved.{moved_at, numbers_above, numbers_parted, told_by, told_of, with_other_number, with_own_number}
 use Rattle.tx_journal.specs.Noted.{commit_of, is_silent_by, is_starter, noted_back, notes_in, parted_by, told_with}
@@ -12,29 +12,19 @@ use Rattle.tx_journal.specs.declared.entry.Entry.{Entry}
 use Rattle.tx_laws.specs.OneMoment.{begins_it, is_silent, is_step_of, tells_moment}
 use Rattle.tx_model.specs.Answer.{Lawful}
 use Rattle.tx_model.specs.History.{role_in}
-use Rattle.tx_model.specs.Membership.{Begins, Continues, Forks, Parks, Role, Outside, Within, Commits, Aborts}
+use Rattle.tx_model.specs.Membership.{Role}
 use Rattle.tx_model.specs.State.{State}
-use Rattle.tx_journal.specs.Notes.{IsNoteOf, Noted, begins_one, commits_one, note_of, starter_by, tells_of}
+use Rattle.tx_journal.specs.Notes.{IsNoteOf, Noted, begins_one, commits_one, starter_by, tells_of}
 use Rattle.tx_journal.specs.declared.notes.Note.{Note}
 
 begins_same : (s : ℕ) (r : Role) → (begins_one r && is_starter s (starter_by r)) ≡ begins_it s r
-begins_same s Outside = refl
-begins_same s (Within t Continues) = refl
-begins_same s (Within t Parks) = refl
-begins_same s (Within t (Forks child)) = refl
-begins_same s (Within t (Begins defers)) = refl
-begins_same s (Commits t) = refl
-begins_same s (Aborts t status) = refl
+begins_same s r = grind arith
 
 own_same : (s : ℕ) (r : Role) → is_starter s (starter_by r) ≡ is_step_of s r
-own_same s Outside = refl
-own_same s (Within t part) = refl
-own_same s (Commits t) = refl
-own_same s (Aborts t status) = refl
+own_same s r = grind arith
 
 tells_same : (S : State) (s : ℕ) (e : Accepted) (h : List Accepted) (o : Option ℕ) → is_starter s o ≡ true → tells_of o S e h ≡ tells_moment S s e h
-tells_same S s e h None is = cc
-tells_same S s e h (Some t) is = ap (λ (x : ℕ). tells_moment S x e h) (eqb-true t s is)
+tells_same S s e h o is = grind (arith, eqb-true)
 
 pub notes_length : (S : State) (h : List Accepted) → length (notes_in S h) ≡ length h
 unfolding notes_in
@@ -51,8 +41,7 @@ parted_same S s (e ∷ h) =
 
 -- what is chosen only where the step is of the transaction
 chosen : (own own_too a b rest : Bool) → own ≡ own_too → (own ≡ true → a ≡ b) → (if own then not a && rest else rest) ≡ (if own_too then not b && rest else rest)
-chosen true own_too a b rest same is = λ j. if same j then not (is refl j) && rest else rest
-chosen false own_too a b rest same is = ap (λ (own : Bool). if own then not b && rest else rest) same
+chosen own own_too a b rest same is = grind arith
 
 silent_same : (S : State) (s : ℕ) (h : List Accepted) → is_silent_by s (notes_in S h) ≡ is_silent S s h
 unfolding notes_in is_silent_by is_silent
@@ -68,27 +57,15 @@ silent_same S s (e ∷ h) =
 told_in_role : (S : State) (later : List Accepted) (e : Accepted) (h : List Accepted) (r : Role) →
     option_map (told_with (length later) (record { starter = starter_by r; begins = begins_one r; commits = commits_one r; tells = tells_of (starter_by r) S e h }) (notes_in S h)) (if commits_one r then starter_by r else None)
     ≡ told_by r S later e h
-told_in_role S later e h Outside = refl
-told_in_role S later e h (Within s part) = refl
-told_in_role S later e h (Commits s) =
-    λ j. Some (record {
-      numbers = reverse (numbers_above (suc (notes_length S h j)) (length later) ++ suc (notes_length S h j) ∷ (parted_same S s h j).own ++ (parted_same S s h j).others);
-      one_moment = not (tells_moment S s e h) && silent_same S s h j;
-    })
-told_in_role S later e h (Aborts s status) = refl
+told_in_role S later e h r = grind (arith, notes_length, parted_same, silent_same)
 
 told_noted : (S : State) (later h : List Accepted) (last : Noted) (ns : List Noted) → last ∷ ns ≡ notes_in S h → option_map (told_with (length later) last ns) (commit_of last) ≡ told_of S later h
 unfolding notes_in
-told_noted S later [] last ns is = cc
-told_noted S later (e ∷ h) last ns is =
-    let first : last ≡ note_of S e h = cc in
-    let rest : ns ≡ notes_in S h = cc in
-    (λ j. option_map (told_with (length later) (first j) (rest j)) (commit_of (first j))) ∙ told_in_role S later e h (role_in S e h)
+told_noted S later h last ns is = grind (arith, told_in_role)
 
 told_nothing : (S : State) (later h : List Accepted) → [] ≡ notes_in S h → told_of S later h ≡ None
 unfolding notes_in
-told_nothing S later [] is = refl
-told_nothing S later (e ∷ h) is = cc
+told_nothing S later h is = grind arith
 
 -- of an entry that is there
 pub moved_there : (S : State) (h later earlier : List Accepted) (k : ℕ) → h ≡ later ++ earlier → length earlier ≡ k → moved_at S h k ≡ told_of S later earlier
@@ -98,12 +75,6 @@ moved_there S h later earlier k parts place =
     let count : length h - k ≡ length later = omega (arith, whole, place) in
     (λ j. if there j then None else told_of S (take (count j) (parts j)) (drop (count j) (parts j)))
     ∙ (λ j. told_of S (take-append_seam later earlier j) (drop-append_seam later earlier j))
-
-pub moved_past : (S : State) (h : List Accepted) (k : ℕ) → length h < k → moved_at S h k ≡ None
-moved_past S h k past = ap (λ (b : Bool). if b then None else told_of S (take (length h - k) h) (drop (length h - k) h)) (lt-ltb (length h) k past)
-
-pub history_length : (entries : List Entry) → length (history_of entries) ≡ length entries
-history_length entries = length-reverse (map accepted_of entries) ∙ length-map entries accepted_of
 
 module _ (S : State) (entries : List Entry) (k : ℕ) (few : k ≤ length entries) where
   place : length (history_of (take k entries)) ≡ k
@@ -121,8 +92,7 @@ module _ (S : State) (entries : List Entry) (k : ℕ) (few : k ≤ length entrie
 
   -- by the notes of the steps up to the entry, of which its own is the first
   pub moved_noted : (last : Noted) (ns : List Noted) → last ∷ ns ≡ notes_in S (history_of (take k entries)) → option_map (told_with (length entries - k) last ns) (commit_of last) ≡ moved_at S (history_of entries) k
-  moved_noted last ns is =
-      ap (λ (n : ℕ). option_map (told_with n last ns) (commit_of last)) (sym after) ∙ told_noted S (history_of (drop k entries)) (history_of (take k entries)) last ns is ∙ sym there
+  moved_noted last ns is = grind (arith, after, there, told_noted)
 
   pub moved_unnoted : [] ≡ notes_in S (history_of (take k entries)) → moved_at S (history_of entries) k ≡ None
   moved_unnoted is = there ∙ told_nothing S (history_of (drop k entries)) (history_of (take k entries)) is

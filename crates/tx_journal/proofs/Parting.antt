@@ -9,10 +9,7 @@ use Rattle.tx_journal.specs.declared.notes.Note.{Note}
 -- one number less to come
 pub above_more : (n from : ℕ) → n < from → numbers_above n (from - n) ≡ from ∷ numbers_above n (from - 1 - n)
 unfolding numbers_above
-above_more n from h =
-    let count : from - n ≡ suc (from - 1 - n) = omega (arith, h) in
-    let first : suc ((from - 1 - n) + n) ≡ from = omega (arith, h) in
-    ap (numbers_above n) count ∙ ap (λ (x : ℕ). x ∷ numbers_above n (from - 1 - n)) first
+above_more n from h = grind arith
 
 pub above_none : (n from : ℕ) → from ≤ n → numbers_above n (from - n) ≡ []
 unfolding numbers_above
@@ -20,8 +17,7 @@ above_none n from h = let none : from - n ≡ 0 = omega (arith, h) in ap (number
 
 -- a number that was added is no more to come
 pub pushed : (acc new : List ℕ) (x : ℕ) (rest whole target : List ℕ) → new ≡ acc ++ x ∷ [] → whole ≡ x ∷ rest → acc ++ whole ≡ target → new ++ rest ≡ target
-pushed acc new x rest whole target added parts is =
-    ap (λ (xs : List ℕ). xs ++ rest) added ∙ append_assoc acc (x ∷ []) rest ∙ ap (λ (xs : List ℕ). acc ++ xs) (sym parts) ∙ is
+pushed acc new x rest whole target added parts is = grind (arith, append_assoc)
 
 pub unpushed : (acc whole target : List ℕ) → whole ≡ [] → acc ++ whole ≡ target → acc ≡ target
 unpushed acc whole target none is = sym (append-nil acc) ∙ ap (λ (xs : List ℕ). acc ++ xs) (sym none) ∙ is
@@ -55,26 +51,17 @@ module _ (s : ℕ) (left earlier : List Note) (n : Note) (parts : left ≡ earli
   -- the next entry is the first one of the transaction
   pub parted_first : begins_its s (noted n) ≡ true → parted_by s (noted_back left) ≡ record { own = length left ∷ []; others = numbers_above 0 (length earlier) }
   unfolding parted_by
-  parted_first begins =
-      ap (parted_by s) (back_more left earlier n parts)
-      ∙ (λ j. if begins j then record { own = count j ∷ []; others = numbers_above 0 (back_length earlier j) }
-      else (if is_starter s (noted n).starter then with_own_number (count j) rest else with_other_number (count j) rest))
+  parted_first begins = grind (arith, back_length, back_more, count)
 
   -- it is of the transaction
   pub parted_own : begins_its s (noted n) ≡ false → is_starter s (noted n).starter ≡ true → parted_by s (noted_back left) ≡ with_own_number (length left) rest
   unfolding parted_by
-  parted_own begins own =
-      ap (parted_by s) (back_more left earlier n parts)
-      ∙ (λ j. if begins j then record { own = suc (length (noted_back earlier)) ∷ []; others = numbers_above 0 (length (noted_back earlier)) }
-      else (if own j then with_own_number (count j) rest else with_other_number (count j) rest))
+  parted_own begins own = grind (arith, back_more, count)
 
   -- it is another one
   pub parted_other : begins_its s (noted n) ≡ false → is_starter s (noted n).starter ≡ false → parted_by s (noted_back left) ≡ with_other_number (length left) rest
   unfolding parted_by
-  parted_other begins other =
-      ap (parted_by s) (back_more left earlier n parts)
-      ∙ (λ j. if begins j then record { own = suc (length (noted_back earlier)) ∷ []; others = numbers_above 0 (length (noted_back earlier)) }
-      else (if other j then with_own_number (count j) rest else with_other_number (count j) rest))
+  parted_other begins other = grind (arith, back_more, count)
 
   -- whether one tells the moment
   abbrev silent : Bool
@@ -88,25 +75,18 @@ module _ (s : ℕ) (left earlier : List Note) (n : Note) (parts : left ≡ earli
 
   pub silent_own : begins_its s (noted n) ≡ false → is_starter s (noted n).starter ≡ true → is_silent_by s (noted_back left) ≡ (not n.tells && silent)
   unfolding is_silent_by
-  silent_own begins own =
-      ap (is_silent_by s) (back_more left earlier n parts)
-      ∙ (λ j. if begins j then true else (if own j then not n.tells && silent else silent))
+  silent_own begins own = grind (arith, back_more)
 
   pub silent_other : begins_its s (noted n) ≡ false → is_starter s (noted n).starter ≡ false → is_silent_by s (noted_back left) ≡ silent
   unfolding is_silent_by
-  silent_other begins other =
-      ap (is_silent_by s) (back_more left earlier n parts)
-      ∙ (λ j. if begins j then true else (if other j then not n.tells && silent else silent))
+  silent_other begins other = grind (arith, back_more)
 
 -- tests in turn
 pub and_true : (a b whole : Bool) → b ≡ true → (a && b) ≡ whole → a ≡ whole
-and_true true b whole so is = sym so ∙ is
-and_true false b whole so is = is
+and_true a b whole so is = grind arith
 
 pub and_more : (a b after whole : Bool) → a ≡ true → b ≡ after → (a && b) ≡ whole → after ≡ whole
-and_more true b after whole so parts is = sym parts ∙ is
-and_more false b after whole so parts is = cc
+and_more a b after whole so parts is = grind arith
 
 pub and_past : (a b after whole : Bool) → a ≡ false → (a && b) ≡ whole → (a && after) ≡ whole
-and_past true b after whole so is = cc
-and_past false b after whole so is = is
+and_past a b after whole so is = grind arith

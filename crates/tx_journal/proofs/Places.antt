@@ -127,10 +127,7 @@ module _ (places : List Crossing) (made : ℕ) (is : List Inverse) (us : List Un
   behind_long = sym (length-map is Some) ∙ ap length (sym are.back) ∙ length-map are.behind inverse_at ∙ are.count
 
   pub parted : IsParted places made
-  parted = record {
-    count = ap length inverses_are ∙ behind_long;
-    long = ap length are.order ∙ length-append are.behind are.ahead ∙ (λ j. are.count j + (ahead_long ∙ ap length (sym undone_are)) j);
-  }
+  parted = grind (arith, ahead_long, behind_long, inverses_are, length-append, undone_are)
 
   -- without those that lead forward
   pub cut_parts : AreParted (take made places) made is []
@@ -162,21 +159,11 @@ module _ (places : List Crossing) (made last : ℕ) (rest : List Inverse) (i : I
   back_there d = ap inverse_at ((λ j. get_or (seam j) (sym place j) d) ∙ get_or-append_seam found.0 found.1 are.ahead d) ∙ found.3
 
   pub turned_back : (c : Crossing) (u : Undone) → undone_at c ≡ Some u → AreParted (set places last c) last rest (u ∷ us)
-  turned_back c u leads = record {
-    behind = found.0;
-    ahead = c ∷ are.ahead;
-    order = (λ j. set (seam j) (sym place j) c) ∙ set-append_seam found.0 found.1 are.ahead c;
-    count = place;
-    back = found.4;
-    forward = λ j. leads j ∷ are.forward j;
-  }
+  turned_back c u leads = grind (arith, place, seam, set-append_seam)
 
   -- where no other follows
   pub popped : us ≡ [] → (others : List Crossing) (c : Crossing) → places ≡ others ++ c ∷ [] → (inverse_at c ≡ Some i) × AreParted others last rest []
-  popped none others c parts =
-      let alone : are.ahead ≡ [] = lead_none undone_at are.ahead (are.forward ∙ ap (map Some) none) in
-      let ends = same_last others found.0 c found.1 (sym parts ∙ seam ∙ ap (λ (cs : List Crossing). found.0 ++ found.1 ∷ cs) alone) in
-      (ap inverse_at ends.1 ∙ found.3, record { behind = found.0; ahead = []; order = ends.0 ∙ sym (append-nil found.0); count = place; back = found.4; forward = refl })
+  popped none others c parts = grind (arith, append-nil, lead_none, place, same_last, seam)
 
 -- the first one that leads forward
 module _ (places : List Crossing) (made : ℕ) (is : List Inverse) (u : Undone) (us : List Undone) (are : AreParted places made is (u ∷ us)) where

@@ -5,15 +5,14 @@ use Rattle.tx_base.specs.declared.names.Sending.{Sending}
 use Rattle.tx_step.specs.Faces.{sent_at_commit}
 use Rattle.tx_kernel.specs.Plans.{sending_of, sent_at_once}
 use Rattle.tx_kernel.specs.declared.planned.Sends.{Sends}
-use Rattle.tx_kernel.specs.declared.planned.Sends.TheVariants.{Nothing, AtOnce, AtCommit}
+use Rattle.tx_kernel.specs.declared.planned.Sends.TheVariants.{AtOnce, AtCommit}
 use Rattle.tx_laws.specs.OneMoment.{is_sent_to}
 use Rattle.tx_live.specs.Content.{held_in}
 use Rattle.tx_live.specs.declared.content.BoxedTxn.{BoxedTxn}
 use Rattle.tx_model.specs.State.{Sending as TheSending}
 
 or_assoc : (a b c : Bool) → ((a || b) || c) ≡ (a || (b || c))
-or_assoc true b c = refl
-or_assoc false b c = refl
+or_assoc a b c = grind arith
 
 -- a send alone, and none
 pub one_sent : (s : ℕ) (m : TheSending) → (m.target == s) ≡ is_sent_to s (m ∷ [])
@@ -42,19 +41,15 @@ pub sent_end : (s : ℕ) (ms : List Sending) (i : ℕ) → length ms ≤ i → i
 unfolding is_sent_to
 sent_end s [] zero few = refl
 sent_end s [] (suc i) few = refl
-sent_end s (m ∷ ms) zero few = let never : ⊥ = omega (arith, few) in absurd never
+sent_end s (m ∷ ms) zero few = absurd (omega (arith, few))
 sent_end s (m ∷ ms) (suc i) few = sent_end s ms i (omega (arith, few))
 
 -- of what a step itself sends, at once and at a commit
 pub not_at_once : (s : ℕ) (first : Sends) → ((m : Sending) → first ≡ AtOnce m → ⊥) → false ≡ is_sent_to s (sent_at_once first)
-not_at_once s Nothing other = none_sent s
-not_at_once s (AtOnce m) other = absurd (other m refl)
-not_at_once s (AtCommit m) other = none_sent s
+not_at_once s first other = grind (arith, none_sent)
 
 pub not_at_commit : (s : ℕ) (first : Sends) → ((m : Sending) → first ≡ AtCommit m → ⊥) → false ≡ is_sent_to s (sent_at_commit first)
-not_at_commit s Nothing other = none_sent s
-not_at_commit s (AtOnce m) other = none_sent s
-not_at_commit s (AtCommit m) other = absurd (other m refl)
+not_at_commit s first other = grind (arith, none_sent)
 
 pub sent_here : (s : ℕ) (ms : List Sending) (i : ℕ) (d : Sending) → i < length ms → ((slice_index_or ms i d).target.0 == s) ≡ true → is_sent_to s (map sending_of (drop i ms)) ≡ true
 sent_here s ms i d h here = sent_from s ms i d h ∙ ap (λ (b : Bool). b || is_sent_to s (map sending_of (drop (suc i) ms))) here
@@ -68,9 +63,3 @@ sent_later s ms i d h other =
 -- a starter with no transaction holds nothing
 pub none_held : (s : ℕ) (slot : Option BoxedTxn) → slot ≡ None → false ≡ is_sent_to s (held_in slot)
 none_held s slot none = none_sent s ∙ ap (λ (x : Option BoxedTxn). is_sent_to s (held_in x)) (sym none)
-
--- what is posted at a commit
-pub commit_sent : (s : ℕ) (first held last : List TheSending) (a b c : Bool) → a ≡ is_sent_to s first → b ≡ is_sent_to s held → c ≡ is_sent_to s last →
-    (a || (b || c)) ≡ is_sent_to s (first ++ (held ++ last))
-commit_sent s first held last a b c x y z =
-    (λ j. x j || (y j || z j)) ∙ ap (λ (t : Bool). is_sent_to s first || t) (sym (sent_of_both s held last)) ∙ sym (sent_of_both s first (held ++ last))

@@ -1,11 +1,10 @@
 -- What is kept of what a step may change.
-use Rattle.std.proofs.Common.{◌≡◌, ◌≤◌, ◌<◌, ◌==◌, inl, inr, ℕ, Bool, true, false, List, Option, Some, None, if◌then◌else◌, length, map, arith, refl, sym, ap, subst, ◌∙◌, add-one, eqb-true, lt-ltb}
+use Rattle.std.proofs.Common.{◌≡◌, ◌≤◌, ◌<◌, ℕ, List, Option, Some, None, length, map, arith, refl, sym, ap, subst, ◌∙◌}
 use Rattle.tx_base.specs.SlotFacts.{slot_there}
 use Rattle.tx_base.specs.Slots.{slot_at}
 use Rattle.tx_base.specs.declared.marks.Mark.{Mark}
 use Rattle.tx_base.specs.declared.names.Sending.{Sending}
 use Rattle.tx_base.specs.declared.steps.Step.{Step}
-use Rattle.tx_base.specs.declared.steps.Step.TheVariants.{Call as Calls, Deliver, KernelAbort}
 use Rattle.tx_change.specs.States.{state_of}
 use Rattle.tx_change.specs.declared.parts.Parts.{Parts}
 use Rattle.tx_core.specs.Machines.{IsMachine, IsWidth}
@@ -14,16 +13,15 @@ use Rattle.tx_journal.specs.Reach.{own_mark, own_table}
 use Rattle.tx_journal.specs.Reaches.{IsSmall}
 use Rattle.tx_journal.specs.Rows.{limit_of, piece_in}
 use Rattle.tx_journal.specs.declared.rows.Row.{Row}
-use Rattle.tx_journal.specs.declared.rows.Row.TheVariants.{Procs, Descs, Pipes, Txns}
 use Rattle.tx_kernel.specs.Plans.{sending_of}
 use Rattle.tx_laws.specs.TwoStates.{states_view}
 use Rattle.tx_live.specs.Content.{held_of, view_of}
 use Rattle.tx_live.specs.declared.content.Content.{Content}
 use Rattle.tx_model.specs.Footprints.{footprint}
 use Rattle.tx_model.specs.Membership.{Table}
-use Rattle.tx_model.specs.State.{Sending as TheSending, State, is_between}
+use Rattle.tx_model.specs.State.{Sending as TheSending, State}
 use Rattle.tx_model.specs.View.{present}
-use Rattle.tx_reserve.specs.Footprints.{HoldsBy, HoldsFor, IsSetOf, table_of}
+use Rattle.tx_reserve.specs.Footprints.{HoldsFor, IsSetOf, table_of}
 use Rattle.tx_reserve.specs.declared.objects.Objects.{Objects}
 
 -- beyond the process numbers there is no mark
@@ -43,19 +41,8 @@ pub width_is : (k : Content) → IsMachine k → length k.parts.procs ≡ (view_
 unfolding view_of states_view
 width_is k is = sym is.content.shaped.marks
 
--- a process of the own transaction, or of none, holds what its starter does
-holds_by : (s : ℕ) (mark : Option Mark) (sends : List Sending) (all : ℕ → List TheSending) → all s ≡ map sending_of sends → HoldsBy (own_mark s mark) sends all
-holds_by s None sends all held = tt
-holds_by s (Some m) sends all held = by (m.starter.0 == s) refl
-  where
-    by : (b : Bool) → (m.starter.0 == s) ≡ b → HoldsBy (if b then Some m else None) sends all
-    by true is = ap all (eqb-true m.starter.0 s is) ∙ held
-    by false is = tt
-
 holds_own : (own : List (Option Mark)) (marks : ℕ → Option Mark) (s : ℕ) (copied : (n : ℕ) → slot_at own n ≡ own_mark s (marks n)) (step : Step) (sends : List Sending) (all : ℕ → List TheSending) → all s ≡ map sending_of sends → HoldsFor own step sends all
-holds_own own marks s copied (Calls p call) sends all held = subst (λ (mark : Option Mark). HoldsBy mark sends all) (sym (copied p.0)) (holds_by s (marks p.0) sends all held)
-holds_own own marks s copied (Deliver p signo) sends all held = subst (λ (mark : Option Mark). HoldsBy mark sends all) (sym (copied p.0)) (holds_by s (marks p.0) sends all held)
-holds_own own marks s copied (KernelAbort starter) sends all held = tt
+holds_own own marks s copied step sends all held = grind arith
 
 -- the footprint by the own marks is that with the own table
 pub own_footprint : (k : Content) (parts : Parts) (own : List (Option Mark)) (s : ℕ) (step : Step) (sends : List Sending) (set : Objects) → state_of (held_of k) parts ≡ present (view_of k) → parts ≡ k.parts →
@@ -73,15 +60,7 @@ own_footprint k parts own s step sends set state same sized starter copied held 
 
 -- the pieces of a machine's rows are of numbers that there may be
 pub within_row : (row : Row) (width n : ℕ) → IsWidth width → n < limit_of row width → n < limit_of row 256
-within_row Procs width n (inl is) h = let small : width ≡ 64 = is in omega (arith, small, h)
-within_row Procs width n (inr is) h = let wide : width ≡ 256 = is in omega (arith, wide, h)
-within_row Descs width n is h = h
-within_row Pipes width n is h = h
-within_row Txns width n (inl is) h = let small : width ≡ 64 = is in omega (arith, small, h)
-within_row Txns width n (inr is) h = let wide : width ≡ 256 = is in omega (arith, wide, h)
+within_row row width n is h = grind arith
 
 pub small_piece : (row : Row) (n : ℕ) → n < limit_of row 256 → IsSmall (piece_in row n)
-small_piece Procs n h = subst (λ (k : ℕ). is_between 256 k ≡ true) (sym (add-one n)) (lt-ltb n 256 h)
-small_piece Descs n h = lt-ltb n 64 h
-small_piece Pipes n h = lt-ltb n 32 h
-small_piece Txns n h = tt
+small_piece row n h = grind arith

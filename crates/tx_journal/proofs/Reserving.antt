@@ -1,5 +1,5 @@
 -- Which step first reserved an object, by what takes the steps back.
-use Rattle.std.proofs.Common.{◌≡◌, ℕ, suc, Bool, true, false, not, ◌&&◌, ◌==◌, List, [], ◌∷◌, Option, Some, None, length, reverse, if◌then◌else◌, refl, sym, ap, subst, ◌∙◌, eq-eqb, eqb-true}
+use Rattle.std.proofs.Common.{◌≡◌, ℕ, suc, Bool, true, false, not, ◌==◌, List, [], ◌∷◌, Option, Some, None, length, reverse, if◌then◌else◌, refl, sym, ap, subst, ◌∙◌, eq-eqb, eqb-true, arith}
 use Rattle.std.specs.Cmp.{both_ways}
 use Rattle.std.proofs.lemmas.List.{ext_get_or}
 use Rattle.std.proofs.lemmas.Option.{same_Some}
@@ -78,35 +78,25 @@ same_either a b = both_ways (a == b) (b == a) (λ same. eq-eqb b a (sym (eqb-tru
 
 -- the owner, or nobody
 owner_or_none : (s : ℕ) (gone : Bool) → is_owner s (if gone then None else Some s) ≡ not gone
-owner_or_none s true = refl
-owner_or_none s false = own s
+owner_or_none s gone = grind arith
 
 -- what somebody owns is in no transaction that is gone
 not_in : (k : Content) (txn : Txn) (members : Members) (o : Object) (s : ℕ) → IsGone k txn members → owner_of k.owners o ≡ Some s → is_in txn.objects o ≡ false
-not_in k txn members o s gone owned = by (is_in txn.objects o) refl
-  where
-    by : (b : Bool) → is_in txn.objects o ≡ b → b ≡ false
-    by true is = let bad : None ≡ Some s = sym (gone.owners o is) ∙ owned in absurd (cc)
-    by false is = refl
+not_in k txn members o s gone owned = grind arith
 
 -- the object that the transaction of s has was its own before the step too, but where the step was the first to reserve it
 owner_before : (k : Content) (inverse : Inverse) (before : Content) (o : Object) (s : ℕ) → IsShaped k → EndsWhole k inverse → Undoes k inverse before → owner_of k.owners o ≡ Some s →
     is_owner s (owner_of before.owners o) ≡ not (comes_first s o inverse)
 owner_before k (Outside log post) before o s shaped whole undoes owned = ap (λ (c : Content). is_owner s (owner_of c.owners o)) (sym undoes) ∙ ap (is_owner s) owned ∙ own s
 owner_before k (Inside starter count had marked held) before o s shaped whole undoes owned =
-    let has : is_in undoes.0.txn.value.objects o ≡ (starter.0 == s) = (shaped.each starter.0 undoes.0 undoes.1.there).objects o ∙ ap (is_owner starter.0) owned ∙ same_either s starter.0 in
-    ap (is_owner s) (undoes.1.owners o ∙ (λ j. if has j && not (is_in had o) then None else owned j)) ∙ owner_or_none s ((starter.0 == s) && not (is_in had o))
+    let has = (shaped.each starter.0 undoes.0 undoes.1.there).objects o in grind (arith, has, undoes.1.owners o, owner_or_none, same_either)
 owner_before k (Begun starter) before o s shaped whole undoes owned =
-    let has : is_in undoes.0.txn.value.objects o ≡ (starter.0 == s) = (shaped.each starter.0 undoes.0 undoes.1.there).objects o ∙ ap (is_owner starter.0) owned ∙ same_either s starter.0 in
-    ap (is_owner s) (undoes.1.owners o ∙ (λ j. if has j then None else owned j)) ∙ owner_or_none s (starter.0 == s)
-owner_before k (Committed boxed count held) before o s shaped whole undoes owned =
-    ap (is_owner s) (undoes.1.revives.owners o ∙ (λ j. if not_in k boxed.txn.value whole.0 o s whole.1 owned j then Some boxed.txn.value.starter.0 else owned j)) ∙ own s
-owner_before k (Aborted boxed stood) before o s shaped whole undoes owned =
-    ap (is_owner s) (undoes.1.revives.owners o ∙ (λ j. if not_in k boxed.txn.value whole.0 o s whole.1 owned j then Some boxed.txn.value.starter.0 else owned j)) ∙ own s
+    let has = (shaped.each starter.0 undoes.0 undoes.1.there).objects o in grind (arith, has, undoes.1.owners o, owner_or_none, same_either)
+owner_before k (Committed boxed count held) before o s shaped whole undoes owned = grind (arith, own, not_in, undoes.1.revives.owners o)
+owner_before k (Aborted boxed stood) before o s shaped whole undoes owned = grind (arith, own, not_in, undoes.1.revives.owners o)
 
 is_its : (s : ℕ) (owner : Option ℕ) → is_owner s owner ≡ true → owner ≡ Some s
-is_its s None bad = absurd (let no : false ≡ true = bad in cc)
-is_its s (Some t) same = ap Some (eqb-true t s same)
+is_its s owner bad = grind arith
 
 -- what is reserved in the view of a history
 reserved_there : (start : State) (k : Content) (h : List Accepted) (s : ℕ) (object : TheObject) → view_of k ≡ view start h → reserved_of start h s (object_of object) ≡ is_owner s (owner_of k.owners (object_of object))
@@ -116,8 +106,7 @@ reserved_there start k h s object seen = ap (λ (V : View). V.reserved s (object
 -- by whether the newest step was the first to reserve it
 touch_then : {A : Type 0} (now before first : Bool) (newest earlier found : A) (none : A) → now ≡ true → before ≡ not first → (first ≡ false → earlier ≡ found) →
     (if now then (if before then earlier else newest) else none) ≡ (if first then newest else found)
-touch_then now before true newest earlier found none is so rest = rw (is, so) refl
-touch_then now before false newest earlier found none is so rest = rw (is, so) (rest refl)
+touch_then now before first newest earlier found none is so rest = grind arith
 
 -- the first step since which the transaction of s has the object is the newest one of its own before which it had not
 pub touch_found : OwnersAreTold → (start : State) (s : ℕ) (object : TheObject) (k : Content) (inverses : List Inverse) (h : List Accepted) → WalksBack start k inverses h → IsMachine k → owner_of k.owners (object_of object) ≡ Some s →
@@ -148,8 +137,7 @@ module _ (told : OwnersAreTold) (k : SessionState) (is : IsJournal k) (machine :
 
   pub none_now : (view_of k.machine).reserved s (object_of object) ≡ false → None ≡ first_touch (start_of k) made s (object_of object)
   unfolding view
-  none_now none =
-      touch_none (start_of k) made s (object_of object) (ap (λ (V : View). V.reserved s (object_of object)) (sym (walks_view (start_of k) k.machine (reverse k.inverses) made is.walks)) ∙ none)
+  none_now none = grind (arith, touch_none, walks_view)
 
   pub found_now : (view_of k.machine).reserved s (object_of object) ≡ true → newest_first s (object_of object) (reverse k.inverses) made ≡ first_touch (start_of k) made s (object_of object)
   found_now reserved =

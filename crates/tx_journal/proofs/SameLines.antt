@@ -1,6 +1,5 @@
 -- The pieces that have the same lines after a step.
-use Rattle.std.proofs.Common.{◌≡◌, ◌≢◌, ◌==◌, ℕ, ◌+◌, Bool, true, false, List, [], ◌∷◌, ◌++◌, codes, Option, Some, None, if◌then◌else◌, nat_eq, nat_le, refl, sym, ap, ◌∙◌, eq-eqb}
-use Rattle.std.specs.Fmt.{decimal}
+use Rattle.std.proofs.Common.{◌≡◌, ◌≢◌, ℕ, Bool, true, false, List, [], Option, if◌then◌else◌, nat_le, refl, sym, ap, ◌∙◌, eq-eqb, arith}
 use Rattle.tx_base.specs.declared.marks.Mark.{Mark}
 use Rattle.tx_base.specs.declared.steps.Step.{Step}
 use Rattle.tx_journal.proofs.Unreached.{held_stays, marks_there, objects_stay}
@@ -17,46 +16,20 @@ use Rattle.tx_model.specs.View.{View, next, present}
 use Rattle.tx_text.specs.Descriptors.{desc_line, pipe_line}
 use Rattle.tx_text.specs.Pieces.{fd_of, ids_of, page_of, pending_of, queue_of}
 use Rattle.tx_text.specs.Processes.{process_lines}
-use Rattle.tx_text.specs.Txns.{flag_of, helds_text, is_listed_in, listed_text, mark_text, members_text, same_answer, some_of, txn_lines, txn_text}
-
--- the lines of a transaction tell of the marks of its members alone
-listed_own : (s : ℕ) (mark : Option Mark) (ended : Bool) → is_listed_in (own_mark s mark) s ended ≡ is_listed_in mark s ended
-listed_own s None ended = refl
-listed_own s (Some m) ended = by (m.starter.0 == s) refl
-  where
-    by : (b : Bool) → (m.starter.0 == s) ≡ b → is_listed_in (if b then Some m else None) s ended ≡ is_listed_in (Some m) s ended
-    by true is = refl
-    by false is = sym (ap (λ (b : Bool). if b then same_answer m.ended ended else false) is)
+use Rattle.tx_text.specs.Txns.{mark_text, members_text, txn_lines}
 
 mark_own : (width : ℕ) (marks : ℕ → Option Mark) (s : ℕ) (sends : List Sending) (mark : Option Mark) → mark_text width marks s sends (own_mark s mark) ≡ mark_text width marks s sends mark
-mark_own width marks s sends None = refl
-mark_own width marks s sends (Some m) = by (m.starter.0 == s) refl
-  where
-    by : (b : Bool) → (m.starter.0 == s) ≡ b → mark_text width marks s sends (if b then Some m else None) ≡ mark_text width marks s sends (Some m)
-    by true is = refl
-    by false is = sym (ap (λ (b : Bool). if b then txn_text width marks s m.defers ++ helds_text sends else []) is)
+mark_own width marks s sends mark = grind arith
 
 module _ (width s : ℕ) (one other : ℕ → Option Mark) (same : (n : ℕ) → own_mark s (one n) ≡ own_mark s (other n)) where
   members_same : (ended : Bool) → members_text width one s ended ≡ members_text width other s ended
-  members_same ended =
-      ap (λ (listed : ℕ → Bool). listed_text listed width ++ (if some_of listed width then [] else codes "-"))
-      (λ i done. (sym (listed_own s (one (done + 1)) ended) ∙ ap (λ (mark : Option Mark). is_listed_in mark s ended) (same (done + 1)) ∙ listed_own s (other (done + 1)) ended) i)
+  members_same ended = grind arith
 
   mark_same : (sends : List Sending) (mark : Option Mark) → mark_text width one s sends mark ≡ mark_text width other s sends mark
-  mark_same sends None = refl
-  mark_same sends (Some m) = by (nat_eq m.starter.0 s)
-    where
-      by : (b : Bool) → (if b then txn_text width one s m.defers ++ helds_text sends else []) ≡ (if b then txn_text width other s m.defers ++ helds_text sends else [])
-      by true = λ i. (codes "txn " ++ (decimal s ++ (flag_of m.defers ++ (members_same false i ++ (codes " ended " ++ (members_same true i ++ 10 ∷ [])))))) ++ helds_text sends
-      by false = refl
+  mark_same sends mark = grind (arith, members_same)
 
   pub txn_same : (one_held other_held : ℕ → List Sending) → one_held s ≡ other_held s → txn_lines width one one_held s ≡ txn_lines width other other_held s
-  txn_same one_held other_held held =
-      ap (λ (sends : List Sending). mark_text width one s sends (one s)) held
-      ∙ mark_same (other_held s) (one s)
-      ∙ sym (mark_own width other s (other_held s) (one s))
-      ∙ ap (λ (mark : Option Mark). mark_text width other s (other_held s) mark) (same s)
-      ∙ mark_own width other s (other_held s) (other s)
+  txn_same one_held other_held held = grind (arith, mark_own, mark_same)
 
 next_width : (V : View) (step : Step) → (next V step).table.width ≡ V.table.width
 unfolding next

@@ -1,8 +1,9 @@
 -- What is told of an entry, by the notes of the steps up to it.
 use Rattle.std.proofs.Common.{arith, ◌≡◌, ℕ, suc, ◌-◌, ◌≤◌, Bool, not, ◌&&◌, List, [], ◌∷◌, ◌++◌, Some, None, length, option_map, reverse, take, sym, ap, ◌∙◌}
 use Rattle.std.proofs.lemmas.List.{length-take-le}
-use Rattle.tx_journal.proofs.Noting.{history_length, moved_noted, moved_unnoted, notes_length}
+use Rattle.tx_journal.proofs.Noting.{moved_noted, moved_unnoted, notes_length}
 use Rattle.tx_journal.proofs.Parting.{back_more, back_none}
+use Rattle.tx_journal.proofs.Walked.{history_length}
 use Rattle.tx_journal.specs.Entries.{history_of}
 use Rattle.tx_journal.specs.Moved.{moved_at, numbers_above, told_in}
 use Rattle.tx_journal.specs.Noted.{commit_of, is_silent_by, noted_back, notes_in, parted_by, told_with}
@@ -42,7 +43,4 @@ module _ (k : SessionState) (number : ℕ) (few : number ≤ length k.entries) (
         own ≡ (parted_by s (noted_back earlier)).own → others ≡ (parted_by s (noted_back earlier)).others → silent ≡ is_silent_by s (noted_back earlier) →
         m.entries.items ≡ reverse (numbers_above number (len - number) ++ number ∷ own ++ others) → m.one_moment ≡ (not last.tells && silent) →
         Some (told_in m) ≡ moved_at (start_of k) (history_of k.entries) number
-    told_commit s len own others silent m commits all mine theirs quiet items one =
-        (λ j. Some (record { numbers = items j; one_moment = one j }))
-        ∙ (λ j. Some (record { numbers = reverse (numbers_above (sym place j) (all j - number) ++ sym place j ∷ mine j ++ theirs j); one_moment = not last.tells && quiet j }))
-        ∙ ap (option_map (told_with (length k.entries - number) (noted last) (noted_back earlier))) commits ∙ told_is
+    told_commit s len own others silent m commits all mine theirs quiet items one = grind (arith, place, told_is)

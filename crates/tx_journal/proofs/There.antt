@@ -8,8 +8,7 @@ use Rattle.tx_live.specs.Crossings.{inverse_at}
 use Rattle.tx_live.specs.declared.crossing.Crossing.{Crossing}
 
 some_same : {A : Type 0} (x y : Option A) → option_map Some x ≡ Some y → x ≡ y
-some_same None y same = let bad : None ≡ Some y = same in absurd (cc)
-some_same (Some a) y same = let is : Some (Some a) ≡ Some y = same in cc
+some_same x y same = grind arith
 
 led_at : {C A : Type 0} (at : C → Option A) (places : List C) (made : ℕ) (xs : List A) (i : ℕ) (c : C) → map at (take made places) ≡ map Some xs → length (take made places) ≡ made → i < made → c ≡ get_or places i c → slice_get xs i ≡ at c
 led_at at places made xs i c lead long inside is =

@@ -1,5 +1,5 @@
 -- A place of a session's crossings that was exchanged.
-use Rattle.std.proofs.Common.{◌≡◌, ℕ, ◌+◌, ◌-◌, ◌<◌, List, [], ◌∷◌, ◌++◌, ◌≢◌, length, length-append, take, set, get_or, Some, inl, inr, arith, refl, sym, ap, subst, ◌∙◌}
+use Rattle.std.proofs.Common.{◌≡◌, ℕ, ◌+◌, ◌-◌, List, [], ◌∷◌, ◌++◌, ◌≢◌, length, take, set, get_or, Some, inr, arith, refl, sym, ap, subst, ◌∙◌}
 use Rattle.tx_change.specs.Stacks.{below_top}
 use Rattle.tx_change.specs.declared.change.Change.{Change}
 use Rattle.tx_core.specs.Undo.{LeadsBack}
@@ -63,9 +63,6 @@ module _ (places : List Crossing) (made : ℕ) (is : IsParted places made) where
     there : (c : Crossing) → c ≡ get_or places last c → (rest : List Inverse) (i : Inverse) → backs ≡ rest ++ i ∷ [] → inverse_at c ≡ Some i
     there c value rest i parts = ap inverse_at value ∙ back_there places made last rest i forwards newest (so rest i parts) c
 
-    pub back_inside : last < length places
-    back_inside = let all = is.long in omega (arith, all, newest)
-
     pub holds_back : (c : Crossing) → c ≡ get_or places last c → (P : Inverse → Type 0) → ((rest : List Inverse) (i : Inverse) → backs ≡ rest ++ i ∷ [] → P i) → HoldsBack c P
     holds_back c value P leads = let end = has_last backs some in back_by P c end.1 (there c value end.0 end.1 end.2) (leads end.0 end.1 end.2)
 
@@ -100,10 +97,7 @@ module _ (places : List Crossing) (made : ℕ) (is : IsParted places made) where
     end = has_last backs found
 
     last_made : made - 1 + 1 ≡ made
-    last_made =
-        let longer : length backs ≡ length (end.0 ++ end.1 ∷ []) = ap length end.2 in
-        let more = length-append end.0 (end.1 ∷ []) in
-        let count = is.count in omega (arith, longer, more, count)
+    last_made = grind arith
 
     ends : (rest : List Inverse) (i : Inverse) → backs ≡ rest ++ i ∷ [] → (inverse_at c ≡ Some i) × AreParted now (made - 1) rest []
     ends rest i parts = popped places made (made - 1) rest i forwards last_made (subst (λ (it : List Inverse). AreParted places made it forwards) parts are) none now c popped_is
@@ -119,16 +113,7 @@ module _ (places : List Crossing) (made : ℕ) (is : IsParted places made) where
 
     pub goes_undone : (k new : Content) (inverse : Inverse) (stack : List Change) (room room_now : ℕ) → room_now ≡ room → inverse_at c ≡ Some inverse → ((before : Content) → Undoes k inverse before → new ≡ before) →
         (rest : List Inverse) (i : Inverse) → backs ≡ rest ++ i ∷ [] → GoesBack k (crossed_in places made stack room) new (crossed_in now (made - 1) stack room_now) rest i
-    goes_undone k new inverse stack room room_now same_room by before rest i parts =
-        let found_end = ends rest i parts in
-        let same : Some i ≡ Some inverse = sym found_end.0 ∙ by in
-        let is_i : i ≡ inverse = cc in
-        record {
-          inverses = inverses_are now (made - 1) rest [] found_end.1;
-          back = λ prior undoes. before prior (subst (λ (it : Inverse). Undoes k it prior) is_i undoes);
-          kept = λ whole. inl (undone_are now (made - 1) rest [] found_end.1);
-          room = same_room;
-        }
+    goes_undone k new inverse stack room room_now same_room by before rest i parts = grind (arith, ends, inverses_are, undone_are)
 
   -- the first one that leads forward
   module _ (c : Crossing) (value : c ≡ get_or places made c) (u : Undone) (us : List Undone) (parts : forwards ≡ u ∷ us) where

@@ -10,7 +10,7 @@ use Rattle.tx_base.specs.declared.steps.Refusal.{Refusal}
 use Rattle.tx_base.specs.declared.steps.Refusal.TheVariants.{NoProcess, NotRunning}
 use Rattle.tx_base.specs.declared.steps.Reply.{Reply}
 use Rattle.tx_base.specs.declared.steps.Step.{Step}
-use Rattle.tx_base.specs.declared.steps.Step.TheVariants.{Call as Calls, Deliver, KernelAbort}
+use Rattle.tx_base.specs.declared.steps.Step.TheVariants.{Call as Calls, Deliver}
 use Rattle.tx_journal.proofs.OwnNames.{all_targets, alone, is_alike}
 use Rattle.tx_journal.specs.Lives.{has_place, starter_by, starter_of}
 use Rattle.tx_journal.specs.Reach.{is_given_up, is_named, may_change, own_mark, own_table}
@@ -21,11 +21,11 @@ use Rattle.tx_laws.specs.Sound.{IsSound}
 use Rattle.tx_model.specs.Answer.{accepted_reply, answer, is_running, is_there, IsAccepted}
 use Rattle.tx_model.specs.Events.{Event, Note, actor, after, effect, objects, process_of}
 use Rattle.tx_model.specs.History.{event_footprint, is_left_in, left_out_before, nobody, targets}
-use Rattle.tx_model.specs.Membership.{Kind, Ordinary, Forking, Beginning, Leaving, Aborting, Role, Outside, Within, Continues, Parks, Forks, Begins, Commits, Aborts, Table, event_in, is_member_of, is_of, kind_event, mark_unless_of, marks_after, new_mark, defers_in, others_open, parked_mark, says_ended}
+use Rattle.tx_model.specs.Membership.{Kind, Aborting, Role, Outside, Within, Continues, Parks, Forks, Begins, Commits, Aborts, Table, event_in, is_member_of, is_of, kind_event, mark_unless_of, marks_after, new_mark, defers_in, parked_mark}
 use Rattle.tx_model.specs.ObjectFacts.{has_either, has_left, same_is}
-use Rattle.tx_model.specs.State.{Object, Proc, Desc, Pipe, Held, Sending, State, has_object, same_object}
+use Rattle.tx_model.specs.State.{Object, Proc, Held, Sending, State, has_object, same_object}
 use Rattle.tx_model.specs.StateLaws.{EqualAt}
-use Rattle.tx_model.specs.View.{View, event_on, first_reply, next, present, role_on}
+use Rattle.tx_model.specs.View.{View, event_on, next, present, role_on}
 use Rattle.tx_model.specs.Words.{kind_of, kind_role, processes_of, unless_refused}
 
 -- the process of an accepted step runs
@@ -54,45 +54,19 @@ IsOf s (Within u part) = u ≡ s
 IsOf s (Commits u) = u ≡ s
 IsOf s (Aborts u k) = u ≡ s
 
-kind_starter : (t : Table) (p : ℕ) (kind : Kind) (r : Reply) (mark : Option Mark) → IsOf (starter_by p mark) (kind_role t p kind r mark)
-kind_starter t p kind r mark = grind arith
-
 step_starter : (V : View) (step : Step) → IsOf (starter_of V.table step) (role_on V step)
-step_starter V (Calls p c) = kind_starter V.table p.0 (kind_of c) (first_reply V (Calls p c)) (V.table.marks p.0)
-step_starter V (Deliver p signo) = kind_starter V.table p.0 Ordinary (first_reply V (Deliver p signo)) (V.table.marks p.0)
-step_starter V (KernelAbort s) = refl
+step_starter V step = grind arith
 
 -- what aborts is the kernel's abort, or a member's
-aborting : (t : Table) (p : ℕ) (kind : Kind) (r : Reply) (mark : Option Mark) → is_abort (kind_role t p kind r mark) ≡ true → (kind ≡ Aborting) × (is_some mark ≡ true)
-aborting t p kind r mark h = grind arith
-
-xabort_place : (t : Table) (p : Pid) (c : Call) → kind_of c ≡ Aborting → is_some (t.marks p.0) ≡ true → has_place t (Calls p c) ≡ true
-xabort_place t p call.SysXabort is some = some
-xabort_place t p c is some = cc
-
 abort_place : (V : View) (step : Step) → is_abort (role_on V step) ≡ true → has_place V.table step ≡ true
-abort_place V (Calls p c) h =
-    let is = aborting V.table p.0 (kind_of c) (first_reply V (Calls p c)) (V.table.marks p.0) h in
-    xabort_place V.table p c is.0 is.1
-abort_place V (Deliver p signo) h =
-    let is = aborting V.table p.0 Ordinary (first_reply V (Deliver p signo)) (V.table.marks p.0) h in absurd (never is.0)
-  where
-    never : Ordinary ≡ Aborting → ⊥
-    never = λ e. cc
-abort_place V (KernelAbort s) h = refl
+abort_place V step h = grind arith
 
 equal_trans : (R S T : State) (o : Object) → EqualAt R S o → EqualAt S T o → EqualAt R T o
 equal_trans R S T o a b = grind arith
 
-none_left : (n s : ℕ) → (if n == s then false else false) ≡ false
-none_left n s = grind arith
-
 -- no abort is made on the state as it is
 made_on : (V : View) (r : Role) (ev : Event) → is_abort r ≡ false → (if is_left_in r nobody then after ev (V.without (left_out_before r nobody)) else V.without (left_out_before r nobody)) ≡ after ev (present V)
-made_on V Outside ev h = refl
-made_on V (Within s part) ev h = refl
-made_on V (Commits s) ev h = λ i. after ev (V.without (λ n. none_left n s i))
-made_on V (Aborts s k) ev h = cc
+made_on V r ev h = grind arith
 
 next_on : (V : View) (step : Step) → is_abort (role_on V step) ≡ false → present (next V step) ≡ after (event_on V step) (present V)
 unfolding next
@@ -104,14 +78,10 @@ only s n = if n == s then true else false
 
 next_after : (V : View) (step : Step) (s k : ℕ) (ev : Event) → role_on V step ≡ Aborts s k → event_on V step ≡ ev → present (next V step) ≡ after ev (V.without (only s))
 unfolding next
-next_after V step s k ev is same = λ i. by (is i) (same i)
-  where
-    by : Role → Event → State
-    by r ev = if is_left_in r nobody then after ev (V.without (left_out_before r nobody)) else V.without (left_out_before r nobody)
+next_after V step s k ev is same = grind arith
 
 either_false : (a b : Bool) → (a || b) ≡ false → (a ≡ false) × (b ≡ false)
-either_false true b h = cc
-either_false false b h = (refl, h)
+either_false a b h = grind arith
 
 module _ (laws : ReachLaws) (V : View) (step : Step) (sound : IsSound V) (accepted : IsAccepted (answer V step)) where
   abbrev s : ℕ
@@ -164,23 +134,13 @@ module _ (laws : ReachLaws) (V : View) (step : Step) (sound : IsSound V) (accept
 
   named_stays : (p : ℕ) → process_of step ≡ p → s ≡ starter_by p (V.table.marks p) → is_running (S.procs (process_of step)) ≡ true → actor ev ≡ p → is_abort (role_on V step) ≡ false → (o : Object) → is_shared o ≡ true →
       is_named V step o ≡ false → EqualAt (present (next V step)) S o
-  named_stays p own at runs made no_abort o shared unnamed =
-      subst (λ (T : State). EqualAt T S o) (sym (next_on V step no_abort))
-      (laws.stay ev S o (sym (others_named p own at runs made no_abort o shared) ∙ unnamed))
+  named_stays p own at runs made no_abort o shared unnamed = grind (arith, next_on, others_named)
 
 -- a step leaves every object as it was that it may not change
 module _ (laws : ReachLaws) where
   plain_stays : (V : View) (step : Step) (sound : IsSound V) (accepted : IsAccepted (answer V step)) → is_abort (role_on V step) ≡ false → (o : Object) → is_shared o ≡ true → is_named V step o ≡ false →
       EqualAt (present (next V step)) (present V) o
-  plain_stays V (Calls p c) sound accepted no_abort o shared unnamed =
-      let step : Step = Calls p c in
-      let made : actor (event_on V step) ≡ p.0 = actor_in (role_on V step) (kind_event V.table p.0 step (kind_of c) (V.table.marks p.0)) ∙ kind_actor V.table p.0 step (kind_of c) (first_reply V step) (V.table.marks p.0) refl no_abort in
-      named_stays laws V step sound accepted p.0 refl refl (call_runs V p c accepted) made no_abort o shared unnamed
-  plain_stays V (Deliver p signo) sound accepted no_abort o shared unnamed =
-      let step : Step = Deliver p signo in
-      let made : actor (event_on V step) ≡ p.0 = actor_in (role_on V step) (kind_event V.table p.0 step Ordinary (V.table.marks p.0)) ∙ kind_actor V.table p.0 step Ordinary (first_reply V step) (V.table.marks p.0) refl no_abort in
-      named_stays laws V step sound accepted p.0 refl refl (delivery_runs V p signo accepted) made no_abort o shared unnamed
-  plain_stays V (KernelAbort u) sound accepted no_abort o shared unnamed = absurd (true≢false no_abort)
+  plain_stays V step sound accepted no_abort o shared unnamed = grind (arith, actor_in, call_runs, delivery_runs, kind_actor, named_stays, true≢false)
 
   pub objects_stay : (V : View) (step : Step) (o : Object) → IsSound V → IsAccepted (answer V step) → is_shared o ≡ true → may_change V step o ≡ false → EqualAt (present (next V step)) (present V) o
   objects_stay V step o sound accepted shared unchanged = by (role_on V step) refl
@@ -263,13 +223,7 @@ role_holds : (s own : ℕ) (r : Role) (made : Event) → IsOf own r → (HoldsFo
 role_holds s own r made of its h = grind arith
 
 step_holds : (V : View) (step : Step) (s : ℕ) → HoldsFor s (event_on V step) → s ≡ starter_of V.table step
-step_holds V (Calls p c) s h =
-    let step : Step = Calls p c in
-    role_holds s (starter_of V.table step) (role_on V step) (kind_event V.table p.0 step (kind_of c) (V.table.marks p.0)) (step_starter V step) (kind_holds s V.table p.0 step (kind_of c) (V.table.marks p.0)) h
-step_holds V (Deliver p signo) s h =
-    let step : Step = Deliver p signo in
-    role_holds s (starter_of V.table step) (role_on V step) (kind_event V.table p.0 step Ordinary (V.table.marks p.0)) (step_starter V step) (kind_holds s V.table p.0 step Ordinary (V.table.marks p.0)) h
-step_holds V (KernelAbort u) s h = absurd h
+step_holds V step s h = grind (arith, kind_holds, role_holds, step_starter)
 
 -- and every other transaction: the marks of its members, and what it holds
 module _ (laws : ReachLaws) (V : View) (step : Step) (s : ℕ) (sound : IsSound V) (accepted : IsAccepted (answer V step)) (other : s ≢ starter_of V.table step) where
@@ -306,12 +260,4 @@ module _ (laws : ReachLaws) (V : View) (step : Step) (s : ℕ) (sound : IsSound 
 
   pub marks_there : (n : ℕ) → own_mark s ((next V step).table.marks n) ≡ own_mark s (V.table.marks n)
   unfolding next
-  marks_there n =
-      let fit = laws.fits V step sound accepted in
-      marks_stay laws V it (process_of step) s (role_on V step) sound fit.0 fit.1 (by (role_on V step) (step_starter V step)) n
-    where
-      by : (r : Role) → IsOf (starter_of V.table step) r → IsApart s r
-      by Outside of = tt
-      by (Within u part) of = λ same. other (sym same ∙ of)
-      by (Commits u) of = λ same. other (sym same ∙ of)
-      by (Aborts u k) of = λ same. other (sym same ∙ of)
+  marks_there n = grind (arith, marks_stay, step_starter)

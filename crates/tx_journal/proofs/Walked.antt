@@ -1,6 +1,6 @@
 -- A session that went back by an entry, or forward by one.
 use Rattle.std.proofs.Common.{◌≡◌, ℕ, ◌+◌, ◌<◌, ◌≤◌, List, [], ◌∷◌, ◌++◌, length, map, reverse, take, drop, get_or, Some, None, slice_get, ◌⊎◌, inl, inr, arith, refl, sym, ap, subst, ◌∙◌, length-append}
-use Rattle.std.proofs.lemmas.List.{map-append, reverse-append, take_more, take-append-drop}
+use Rattle.std.proofs.lemmas.List.{length-map, length-reverse, map-append, reverse-append, take_more, take-append-drop}
 use Rattle.std.proofs.lemmas.Option.{get_or_from_slice_get, slice_get_cases}
 use Rattle.tx_base.specs.declared.steps.Accepted.{Accepted}
 use Rattle.tx_base.specs.declared.steps.Refusal.TheVariants.{NoMemory}
@@ -19,7 +19,10 @@ use Rattle.tx_live.specs.declared.content.Content.{Content}
 use Rattle.tx_live.specs.declared.inverse.Inverse.{Inverse}
 use Rattle.tx_model.specs.Answer.{IsAccepted, Lawful, answer}
 use Rattle.tx_model.specs.State.{State}
-use Rattle.tx_model.specs.View.{View, view}
+use Rattle.tx_model.specs.View.{view}
+
+pub history_length : (entries : List Entry) → length (history_of entries) ≡ length entries
+history_length entries = length-reverse (map accepted_of entries) ∙ length-map entries accepted_of
 
 -- the history of the entries up to one of them
 pub history_to : (entries : List Entry) (n : ℕ) (d : Entry) → n < length entries → history_of (take (n + 1) entries) ≡ accepted_of (get_or entries n d) ∷ history_of (take n entries)
@@ -45,8 +48,7 @@ module _ (k : SessionState) (is : IsJournal k) (rest : List Inverse) (inverse : 
   fewer = ap length parts ∙ length-append rest (inverse ∷ [])
 
   walked : WalksBack (start_of k) k.machine (inverse ∷ reverse rest) (history_of (take (length rest + 1) k.entries))
-  walked = subst (λ (xs : List Inverse). WalksBack (start_of k) k.machine xs (history_of (take (length rest + 1) k.entries))) (ap reverse parts ∙ reverse-append rest (inverse ∷ []))
-      (subst (λ (n : ℕ). WalksBack (start_of k) k.machine (reverse k.inverses) (history_of (take n k.entries))) fewer is.walks)
+  walked = grind (arith, fewer, reverse-append)
 
   first_walk : (entries : List Entry) → entries ≡ k.entries → LeadsBack k.machine inverse × ((before : Content) × Undoes k.machine inverse before × WalksBack (start_of k) before (reverse rest) (history_of (take (length rest) k.entries)))
       × EndsWhole k.machine inverse
@@ -68,16 +70,7 @@ module _ (k : SessionState) (is : IsJournal k) (rest : List Inverse) (inverse : 
   less before = record { machine = before; entries = k.entries; inverses = rest; width = k.width; count = k.count }
 
   pub journal_less : (new : Content) → ((before : Content) → Undoes k.machine inverse before → new ≡ before) → IsJournal (less new)
-  journal_less new undone =
-      let walk = (first_walk k.entries refl).1 in
-      record {
-        low = is.low;
-        high = is.high;
-        wide = is.wide;
-        few = let f = fewer in let few = is.few in omega (arith, f, few);
-        lawful = is.lawful;
-        walks = subst (λ (content : Content). WalksBack (start_of k) content (reverse rest) (history_of (take (length rest) k.entries))) (sym (undone walk.0 walk.1)) walk.2;
-      }
+  journal_less new undone = grind (arith, fewer, first_walk)
 
 -- the session after it made the next entry
 pub within : (entries : List Entry) (n : ℕ) (entry : Entry) → Some entry ≡ slice_get entries n → n < length entries
@@ -106,28 +99,13 @@ module _ (k : SessionState) (is : IsJournal k) (entry : Entry) (next : Some entr
   -- the entry's reply is the answer to its step
   its_reply : (reply : Reply) → IsAccepted reply → (reply ≡ No NoMemory) ⊎ (answer (view_of k.machine) entry.step ≡ reply) → reply ≡ entry.reply
   unfolding Lawful
-  its_reply reply accepted (inl refused) = absurd (subst IsAccepted refused accepted)
-  its_reply reply accepted (inr answered) = sym answered ∙ ap (λ (V : View). answer V entry.step) seen ∙ next_lawful.1
+  its_reply reply accepted hyp2 = grind (arith, next_lawful, seen)
 
   -- the session once the entry is made again
   pub journal_made : (new : Content) (inverse : Inverse) → view_of new ≡ view (start_of k) (accepted_of entry ∷ earlier) → LeadsBack new inverse → Undoes new inverse k.machine → EndsWhole new inverse →
       IsJournal (record { machine = new; entries = k.entries; inverses = k.inverses ++ inverse ∷ []; width = k.width; count = k.count })
   unfolding WalksBack
-  journal_made new inverse view_new leads undoes whole = record {
-    low = is.low;
-    high = is.high;
-    wide = is.wide;
-    few = let u = under in let l = longer in omega (arith, u, l);
-    lawful = is.lawful;
-    walks = subst (λ (xs : List Inverse). WalksBack (start_of k) new xs (history_of (take (length (k.inverses ++ inverse ∷ [])) k.entries))) (sym (reverse-append k.inverses (inverse ∷ [])))
-        (subst (WalksBack (start_of k) new (inverse ∷ reverse k.inverses)) (sym here) (view_new, leads, (k.machine, undoes, is.walks), whole));
-  }
-    where
-      longer : length (k.inverses ++ inverse ∷ []) ≡ position_of k + 1
-      longer = length-append k.inverses (inverse ∷ [])
-
-      here : history_of (take (length (k.inverses ++ inverse ∷ [])) k.entries) ≡ accepted_of entry ∷ earlier
-      here = ap (λ (n : ℕ). history_of (take n k.entries)) longer ∙ next_history
+  journal_made new inverse view_new leads undoes whole = grind (arith, length-append, next_history, reverse-append, under)
 
   pub journal_next : (new : Content) (inverse : Inverse) (reply : Reply) → IsAccepted reply → (reply ≡ No NoMemory) ⊎ (answer (view_of k.machine) entry.step ≡ reply) →
       ((start : State) (earlier : List Accepted) → Lawful start earlier → view_of k.machine ≡ view start earlier →
