@@ -99,7 +99,7 @@ module _ (k : SessionState) (is : IsJournal k) (entry : Entry) (next : Some entr
   -- the entry's reply is the answer to its step
   its_reply : (reply : Reply) → IsAccepted reply → (reply ≡ No NoMemory) ⊎ (answer (view_of k.machine) entry.step ≡ reply) → reply ≡ entry.reply
   unfolding Lawful
-  its_reply reply accepted hyp2 = grind (arith, next_lawful, seen)
+  its_reply reply accepted answered = grind (arith, next_lawful, seen)
 
   -- the session once the entry is made again
   pub journal_made : (new : Content) (inverse : Inverse) → view_of new ≡ view (start_of k) (accepted_of entry ∷ earlier) → LeadsBack new inverse → Undoes new inverse k.machine → EndsWhole new inverse →
