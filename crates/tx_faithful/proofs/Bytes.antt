@@ -1,12 +1,11 @@
 -- Bytes in a text.
-use Rattle.std.proofs.Common.{◌≡◌, ℕ, zero, suc, ◌<◌, ◌/◌, ◌%◌, List, [], ◌∷◌, ◌++◌, Some, None, Ok, drop, slice_index, refl, sym, ap, ◌∙◌, arith}
+use Rattle.std.proofs.Common.{◌≡◌, ℕ, suc, ◌<◌, ◌/◌, ◌%◌, List, [], ◌∷◌, ◌++◌, None, Ok, drop, slice_index, refl, sym, ap, ◌∙◌, arith}
 use Rattle.hex.specs.Hex.{IsBytes, decode_of, encode_lower, encode_with, hex_digit_value, lower_digits}
-use Rattle.hex.proofs.HexLemmas.{decode_of-encode_lower, IsDigits-lower_digits}
+use Rattle.hex.proofs.HexLemmas.{decode_of-encode_lower}
 use Rattle.tx_lines.specs.Bytes.{bytes_text, two_digits}
 
 one_byte : (byte : ℕ) → byte < 256 → IsBytes (byte ∷ [])
-one_byte byte small zero = small
-one_byte byte small (suc i) = omega arith
+one_byte byte small = grind arith
 
 -- two digits tell a byte
 pub byte_told : (a b : ℕ) (r s : List ℕ) → a < 256 → b < 256 → two_digits a ++ r ≡ two_digits b ++ s → (a ≡ b) × (r ≡ s)
@@ -20,9 +19,7 @@ byte_told a b r s a_small b_small e =
 
 -- what is no digit is not the first of a byte
 no_digit : (other byte : ℕ) → byte < 256 → hex_digit_value other ≡ None → other ≡ slice_index lower_digits (byte / 16) → ⊥
-no_digit other byte small none e =
-    let digit : hex_digit_value (slice_index lower_digits (byte / 16)) ≡ Some (byte / 16) = IsDigits-lower_digits (byte / 16) (omega arith) in
-    absurd (cc)
+no_digit other byte small none e = grind (arith, slice_index)
 
 encoded_told : (a b r s : List ℕ) → IsBytes a → IsBytes b → encode_lower a ++ 10 ∷ r ≡ encode_lower b ++ 10 ∷ s → (a ≡ b) × (r ≡ s)
 unfolding encode_with

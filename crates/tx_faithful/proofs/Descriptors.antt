@@ -20,8 +20,7 @@ fd_rest (Some number) = Some (decimal number ++ 10 ∷ [])
 
 fd_numbered : (fd : ℕ) (x : Option ℕ) → fd_line fd x ≡ numbered (codes "fd ") 32 fd (fd_rest x)
 unfolding fd_rest
-fd_numbered fd None = refl
-fd_numbered fd (Some number) = refl
+fd_numbered fd x = grind arith
 
 fd_told : (x y : Option ℕ) (R S : List ℕ) → IsDescNumber x → IsDescNumber y → Tells (fd_rest x) (fd_rest y) R S (x ≡ y)
 unfolding fd_rest
@@ -53,12 +52,10 @@ desc_rest (Some x) = Some (decimal x.pipe ++ (side_text x.side ++ wait_text x.no
 
 desc_numbered : (number : ℕ) (x : Option Description) → desc_line number x ≡ numbered (codes "desc ") 32 number (desc_rest x)
 unfolding desc_rest
-desc_numbered number None = refl
-desc_numbered number (Some x) = refl
+desc_numbered number x = grind arith
 
 side_stops : (side : Side) (r : List ℕ) → Stops in_number (side_text side ++ r)
-side_stops ReadSide r = refl
-side_stops WriteSide r = refl
+side_stops side r = grind arith
 
 side_told : (a b : Side) (r s : List ℕ) → side_text a ++ r ≡ side_text b ++ s → (a ≡ b) × (r ≡ s)
 side_told ReadSide ReadSide r s e = (refl, ap (drop 2) e)
@@ -110,8 +107,7 @@ pipe_rest (Some bytes) = Some (bytes_text bytes ++ 10 ∷ [])
 
 pipe_numbered : (number : ℕ) (x : Option (List ℕ)) → pipe_line number x ≡ numbered (codes "pipe ") 32 number (pipe_rest x)
 unfolding pipe_rest
-pipe_numbered number None = refl
-pipe_numbered number (Some bytes) = refl
+pipe_numbered number x = grind arith
 
 pipe_told : (x y : Option (List ℕ)) (R S : List ℕ) → HoldsBytes x → HoldsBytes y → Tells (pipe_rest x) (pipe_rest y) R S (x ≡ y)
 unfolding pipe_rest

@@ -1,6 +1,6 @@
 -- Words that end where another byte follows.
-use Rattle.std.proofs.Common.{◌≡◌, ℕ, suc, ◌<◌, ◌^◌, Bool, true, false, ◌&&◌, List, [], ◌∷◌, ◌++◌, refl, sym, ap, ◌∙◌, arith, append_assoc, get_or, ◌==◌, eq-eqb}
-use Rattle.std.specs.Prelude.{nat_lt, ℤ, pos, negsuc, FitsSigned}
+use Rattle.std.proofs.Common.{◌≡◌, ℕ, ◌<◌, ◌^◌, Bool, true, false, ◌&&◌, List, [], ◌∷◌, ◌++◌, refl, sym, ap, ◌∙◌, arith, append_assoc, get_or, ◌==◌, eq-eqb}
+use Rattle.std.specs.Prelude.{nat_lt, ℤ, FitsSigned}
 use Rattle.std.specs.Int.{w64}
 use Rattle.std.specs.Fmt.{decimal, signed_decimal}
 use Rattle.std.specs.Str.Parse.{AllDigits}
@@ -22,19 +22,9 @@ Stops p (byte ∷ bytes) = p byte ≡ false
 
 pub until : (p : ℕ → Bool) (a b r s : List ℕ) → Passes p a → Passes p b → Stops p r → Stops p s → a ++ r ≡ b ++ s → (a ≡ b) × (r ≡ s)
 until p [] [] r s in_a in_b at_r at_s e = (refl, e)
-until p [] (y ∷ b) [] s in_a in_b at_r at_s e = absurd (cc)
-until p [] (y ∷ b) (x ∷ r) s in_a in_b at_r at_s e =
-    let same : x ≡ y = cc in
-    absurd (both_ways (p x) at_r (ap p same ∙ in_b.0))
-until p (x ∷ a) [] r [] in_a in_b at_r at_s e = absurd (cc)
-until p (x ∷ a) [] r (y ∷ s) in_a in_b at_r at_s e =
-    let same : y ≡ x = cc in
-    absurd (both_ways (p y) at_s (ap p same ∙ in_a.0))
-until p (x ∷ a) (y ∷ b) r s in_a in_b at_r at_s e =
-    let first : x ≡ y = cc in
-    let rest : a ++ r ≡ b ++ s = cc in
-    let so = until p a b r s in_a.1 in_b.1 at_r at_s rest in
-    ((λ j. first j ∷ so.0 j), so.1)
+until p [] (y ∷ b) r s in_a in_b at_r at_s e = grind (arith, both_ways)
+until p (x ∷ a) [] r s in_a in_b at_r at_s e = grind (arith, both_ways)
+until p (x ∷ a) (y ∷ b) r s in_a in_b at_r at_s e = grind (arith, until p a b r s)
 
 -- a text in two parts, with what follows
 pub regroup : (a t r b u s : List ℕ) → (a ++ t) ++ r ≡ (b ++ u) ++ s → a ++ (t ++ r) ≡ b ++ (u ++ s)
@@ -61,8 +51,7 @@ decimal_passes : (n : ℕ) → n < 2 ^ 64 → Passes in_number (decimal n)
 decimal_passes n small = digits_pass (decimal n) (digits_decimal own n small)
 
 signed_passes : (z : ℤ) → FitsSigned w64 z → Passes in_number (signed_decimal z)
-signed_passes (pos n) fits = decimal_passes n (omega (arith, mag_small (pos n) fits))
-signed_passes (negsuc n) fits = (refl, decimal_passes (suc n) (omega (arith, mag_small (negsuc n) fits)))
+signed_passes z fits = grind (arith, decimal_passes)
 
 -- a number ends where no digit follows
 pub number_told : (m n : ℕ) (r s : List ℕ) → m < 2 ^ 64 → n < 2 ^ 64 → Stops in_number r → Stops in_number s → decimal m ++ r ≡ decimal n ++ s → (m ≡ n) × (r ≡ s)

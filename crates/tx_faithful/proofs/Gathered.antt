@@ -1,6 +1,6 @@
 -- Things that are written by rising number, and some left out, are read as they were.
-use Rattle.std.proofs.Common.{◌≡◌, ◌≢◌, ◌∙◌, ◌<◌, ◌≤◌, ◌+◌, ℕ, zero, suc, Bool, true, false, cond, List, [], ◌∷◌, ◌++◌, Option, Some, None, ap, arith, append_assoc, get_or, length, refl, subst, sym, take, nat_eq, inl, inr}
-use Rattle.std.proofs.lemmas.Bool.{cases_lt, eq-eqb, ne_eqb}
+use Rattle.std.proofs.Common.{◌≡◌, ◌≢◌, ◌∙◌, ◌<◌, ◌≤◌, ℕ, zero, suc, List, [], ◌∷◌, ◌++◌, Option, Some, None, ap, arith, append_assoc, get_or, length, refl, sym, take}
+use Rattle.std.proofs.lemmas.Bool.{eq-eqb, ne_eqb}
 use Rattle.std.proofs.lemmas.List.{append-nil, take_all}
 use Rattle.std.proofs.lemmas.List.Elements.{All-append, All-cons, All-nil}
 use Rattle.std.proofs.Math.Seq.{take-suc}
@@ -13,6 +13,11 @@ use Rattle.tx_faithful.specs.ReadProcesses.{found_at, table}
 use Rattle.tx_faithful.specs.ReadReplies.{or_else}
 use Rattle.tx_faithful.specs.Reading.{list_in, Read}
 use Rattle.tx_faithful.specs.ToldStates.{gathered}
+
+-- what is so of nothing, and of all that may be there
+pub each_there : {A : Type 0} (P : Option A → Type 0) (x : Option A) → P None → ((found : A) → x ≡ Some found → P (Some found)) → P x
+each_there P None none some = none
+each_there P (Some found) none some = some found refl
 
 each_append : {A : Type 0} (tokens : A → List Token) (xs ys : List A) → each_tokens tokens (xs ++ ys) ≡ each_tokens tokens xs ++ each_tokens tokens ys
 each_append tokens [] ys = refl
@@ -40,24 +45,16 @@ numbered number (Some x) = (number, x) ∷ []
 
 found_append : {A : Type 0} (xs ys : List (ℕ × A)) (n : ℕ) → found_at (xs ++ ys) n ≡ or_else (found_at xs n) (found_at ys n)
 found_append [] ys n = refl
-found_append (x ∷ xs) ys n = by (nat_eq x.0 n) (found_append xs ys n)
-  where
-    by : (is : Bool) → found_at (xs ++ ys) n ≡ or_else (found_at xs n) (found_at ys n)
-        → cond is (Some x.1) (found_at (xs ++ ys) n) ≡ or_else (cond is (Some x.1) (found_at xs n)) (found_at ys n)
-    by true below = refl
-    by false below = below
+found_append (x ∷ xs) ys n = grind (arith, found_append xs ys n)
 
 not_there : {A : Type 0} (k n : ℕ) (x : Option A) → k ≢ n → found_at (numbered k x) n ≡ None
-not_there k n None other = refl
-not_there k n (Some x) other = ap (λ (is : Bool). cond is (Some x) None) (ne_eqb k n other)
+not_there k n x other = grind (arith, ne_eqb)
 
 there : {A : Type 0} (n : ℕ) (x : Option A) → found_at (numbered n x) n ≡ x
-there n None = refl
-there n (Some x) = ap (λ (is : Bool). cond is (Some x) None) (eq-eqb n n refl)
+there n x = grind (arith, eq-eqb)
 
 or_none : {A : Type 0} (x : Option A) → or_else x None ≡ x
-or_none None = refl
-or_none (Some x) = refl
+or_none x = grind arith
 
 module _ {A : Type 0} (key : ℕ → ℕ) (at : ℕ → Option A) where
   abbrev pub all_numbered : ℕ → List (ℕ × A)
@@ -74,27 +71,12 @@ module _ {A : Type 0} (key : ℕ → ℕ) (at : ℕ → Option A) where
   pub found_there : ((i j : ℕ) → key i ≡ key j → i ≡ j) → (limit n : ℕ) → n < limit → found_at (all_numbered limit) (key n) ≡ at (key n)
   unfolding gathered
   found_there apart zero n below = absurd (omega (arith, below))
-  found_there apart (suc limit) n below = found_append (all_numbered limit) last (key n) ∙ elim (cases_lt n limit) [
-    | inl less ↦ ap (λ x. or_else x (found_at last (key n))) (found_there apart limit n less)
-        ∙ ap (or_else (at (key n))) (not_there (key limit) (key n) (at (key limit)) (λ same. absurd (let is : limit ≡ n = apart limit n same in omega (arith, is, less))))
-        ∙ or_none (at (key n))
-    | inr above ↦ (
-        let is : limit ≡ n = omega (arith, above, below) in
-        subst (λ (m : ℕ). or_else (found_at (all_numbered limit) (key m)) (found_at last (key m)) ≡ at (key m)) is
-        (ap (λ x. or_else x (found_at last (key limit))) (found_nowhere limit (key limit) (λ i less same. absurd (let here : i ≡ limit = apart i limit same in omega (arith, here, less))))
-        ∙ there (key limit) (at (key limit)))
-        )
-  ]
-    where
-      last : List (ℕ × A)
-      last = numbered (key limit) (at (key limit))
+  found_there apart (suc limit) n below = grind (arith, found_append, found_nowhere, not_there, or_none, there, apart limit n, found_there apart limit n)
 
   pub numbered_good : (Good : ℕ × A → Type 0) (limit : ℕ) → ((n : ℕ) (x : A) → n < limit → at (key n) ≡ Some x → Good (key n, x)) → All Good (all_numbered limit)
-  numbered_good Good limit good = gathered_good Good (λ n. numbered (key n) (at (key n))) limit (λ n below. by n below (at (key n)) refl)
-    where
-      by : (n : ℕ) → n < limit → (x : Option A) → at (key n) ≡ x → All Good (numbered (key n) x)
-      by n below None is = All-nil Good
-      by n below (Some x) is = All-cons Good (key n, x) [] (good n x below is) (All-nil Good)
+  numbered_good Good limit good =
+      gathered_good Good (λ n. numbered (key n) (at (key n))) limit
+      (λ n below. each_there (λ x. All Good (numbered (key n) x)) (at (key n)) (All-nil Good) (λ x is. All-cons Good (key n, x) [] (good n x below is) (All-nil Good)))
 
 -- a list that has what is there at each number below a limit
 module _ {A : Type 0} (item : Read (ℕ × A)) (written : ℕ → A → List Token) (Good : ℕ × A → Type 0) (is : IsItem item (λ one. written one.0 one.1) Good) where
@@ -103,8 +85,7 @@ module _ {A : Type 0} (item : Read (ℕ × A)) (written : ℕ → A → List Tok
   or_nothing n (Some x) = written n x
 
   one_written : (n : ℕ) (x : Option A) → or_nothing n x ≡ each_tokens (λ one. written one.0 one.1) (numbered n x)
-  one_written n None = refl
-  one_written n (Some x) = sym (append-nil (written n x))
+  one_written n x = grind (arith, append-nil)
 
   pub listed_read : (name : List ℕ) (key : ℕ → ℕ) (at : ℕ → Option A) (limit : ℕ) (tokens : ℕ → List Token) (rest : List Token) → ((n : ℕ) → tokens n ≡ or_nothing (key n) (at (key n)))
       → ((n : ℕ) (x : A) → n < limit → at (key n) ≡ Some x → Good (key n, x)) → list_in name item (list_member name (upto tokens limit) ++ rest) ≡ Some (all_numbered key at limit, rest)

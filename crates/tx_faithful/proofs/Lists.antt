@@ -1,10 +1,10 @@
 -- Lists of numbers, and sets of signals, in a text.
-use Rattle.std.proofs.Common.{◌≡◌, ℕ, zero, suc, ◌<◌, ◌^◌, Bool, true, false, cond, ◌&&◌, ◌||◌, ◌==◌, List, [], ◌∷◌, ◌++◌, drop, get_or, length, refl, sym, ap, ◌∙◌, arith, inl, inr, append_assoc, eq-eqb, eqb-true}
+use Rattle.std.proofs.Common.{◌≡◌, ℕ, ◌<◌, ◌^◌, Bool, true, false, ◌&&◌, ◌||◌, ◌==◌, List, [], ◌∷◌, ◌++◌, drop, get_or, length, refl, sym, ap, ◌∙◌, arith, append_assoc}
 use Rattle.std.specs.Prelude.{nat_lt}
 use Rattle.std.specs.Int.{bit_at}
 use Rattle.std.specs.List.{filter}
 use Rattle.std.specs.Fmt.{decimal}
-use Rattle.std.proofs.lemmas.Bool.{both_ways, or_cases, or_right}
+use Rattle.std.proofs.lemmas.Bool.{both_ways}
 use Rattle.std.proofs.lemmas.Bool.Decides.{nat_tests}
 use Rattle.std.proofs.lemmas.Fmt.{decimal_nonempty, digits_decimal}
 use Rattle.std.proofs.lemmas.List.{get_or_append_left}
@@ -21,11 +21,7 @@ use Rattle.tx_faithful.proofs.Fronts.{in_number, number_told, Stops}
 -- a number is one of two lists together where it is one of either
 pub one_of_both : (xs ys : List ℕ) (k : ℕ) → is_one_of (xs ++ ys) k ≡ (is_one_of xs k || is_one_of ys k)
 one_of_both [] ys k = refl
-one_of_both (x ∷ xs) ys k = ap (λ (b : Bool). x == k || b) (one_of_both xs ys k) ∙ either (x == k) (is_one_of xs k) (is_one_of ys k)
-  where
-    either : (a b c : Bool) → (a || (b || c)) ≡ ((a || b) || c)
-    either true b c = refl
-    either false b c = refl
+one_of_both (x ∷ xs) ys k = grind (arith, one_of_both xs ys k)
 
 -- a digit, a sign or a comma
 abbrev pub in_list : ℕ → Bool
@@ -40,18 +36,14 @@ no_number : (byte : ℕ) → in_list byte ≡ false → in_number byte ≡ false
 no_number byte none = grind (arith, nat_tests)
 
 number_stops : (r : List ℕ) → Stops in_list r → Stops in_number r
-number_stops [] stops = tt
-number_stops (byte ∷ r) stops = no_number byte stops
+number_stops r stops = grind (arith, no_number)
 
 more_stops : (ns r : List ℕ) → Stops in_list r → Stops in_number (more_text ns ++ r)
 more_stops [] r stops = number_stops r stops
 more_stops (n ∷ ns) r stops = refl
 
 no_more : (r t : List ℕ) → Stops in_list r → r ≡ 44 ∷ t → ⊥
-no_more [] t stops e = absurd (cc)
-no_more (byte ∷ r) t stops e =
-    let same : byte ≡ 44 = cc in
-    both_ways (in_list byte) stops (ap in_list same)
+no_more r t stops e = grind (arith, both_ways)
 
 more_told : (ns ms r s : List ℕ) → AreSmall ns → AreSmall ms → Stops in_list r → Stops in_list s → more_text ns ++ r ≡ more_text ms ++ s → (ns ≡ ms) × (r ≡ s)
 more_told [] [] r s n_small m_small at_r at_s e = (refl, e)
@@ -86,60 +78,46 @@ rising_small above (n ∷ ns) rising = let small : n < 2 ^ 8 = rising.1 in (omeg
 -- what is kept of a list passes, and what passes is kept
 passes : (p : ℕ → Bool) (xs : List ℕ) (k : ℕ) → is_one_of (filter p xs) k ≡ true → p k ≡ true
 passes p [] k h = absurd (both_ways false refl h)
-passes p (x ∷ xs) k h = by (passes p xs k) (p x) refl h
-  where
-    by : (is_one_of (filter p xs) k ≡ true → p k ≡ true) → (b : Bool) → p x ≡ b → is_one_of (cond b (x ∷ filter p xs) (filter p xs)) k ≡ true → p k ≡ true
-    by rest false is h = rest h
-    by rest true is h = elim (or_cases (x == k) (is_one_of (filter p xs) k) h) [
-      | inl e ↦ ap p (sym (eqb-true x k e)) ∙ is
-      | inr e ↦ rest e
-    ]
+passes p (x ∷ xs) k h = grind (arith, nat_tests, passes p xs k)
 
 kept : (p : ℕ → Bool) (xs : List ℕ) (k : ℕ) → is_one_of xs k ≡ true → p k ≡ true → is_one_of (filter p xs) k ≡ true
 kept p [] k h is = h
-kept p (x ∷ xs) k h is = by (λ e. kept p xs k e is) (p x) refl
-  where
-    by : (is_one_of xs k ≡ true → is_one_of (filter p xs) k ≡ true) → (b : Bool) → p x ≡ b → is_one_of (cond b (x ∷ filter p xs) (filter p xs)) k ≡ true
-    by rest false none = elim (or_cases (x == k) (is_one_of xs k) h) [
-      | inl e ↦ absurd (both_ways (p x) none (ap p (eqb-true x k e) ∙ is))
-      | inr e ↦ rest e
-    ]
-    by rest true some = elim (or_cases (x == k) (is_one_of xs k) h) [
-      | inl e ↦ ap (λ (b : Bool). b || is_one_of (filter p xs) k) e
-      | inr e ↦ or_right (x == k) (is_one_of (filter p xs) k) (rest e)
-    ]
+kept p (x ∷ xs) k h is = grind (arith, nat_tests, kept p xs k)
 
 -- a set of known signals
 abbrev pub IsKnownSet : ℕ → Type 0
 IsKnownSet set = (signo : ℕ) → is_in_set set signo ≡ true → is_known signo ≡ true
 
+all_below : List ℕ → Bool
+all_below [] = true
+all_below (n ∷ ns) = nat_lt n 40 && all_below ns
+
+one_below : (ns : List ℕ) (k : ℕ) → all_below ns ≡ true → is_one_of ns k ≡ true → k < 40
+unfolding all_below
+one_below [] k below is = absurd (both_ways false refl is)
+one_below (n ∷ ns) k below is = grind (arith, nat_tests, one_below ns k)
+
+-- the number of a known signal is small
+pub known_small : (signo : ℕ) → is_known signo ≡ true → signo < 40
+unfolding all_below
+known_small signo known = one_below (standard_signals ++ realtime_signals) signo refl (one_of_both standard_signals realtime_signals signo ∙ known)
+
 -- lists of those that pass tell the test
 pub same_test : (p q : ℕ → Bool) (xs : List ℕ) (k : ℕ) → filter p xs ≡ filter q xs → is_one_of xs k ≡ true → p k ≡ q k
-same_test p q xs k same among = by (p k) (q k) refl refl
-  where
-    by : (a b : Bool) → p k ≡ a → q k ≡ b → a ≡ b
-    by true true p_is q_is = refl
-    by true false p_is q_is = sym (passes q xs k (ap (λ (ns : List ℕ). is_one_of ns k) (sym same) ∙ kept p xs k among p_is)) ∙ q_is
-    by false true p_is q_is = sym p_is ∙ passes p xs k (ap (λ (ns : List ℕ). is_one_of ns k) same ∙ kept q xs k among q_is)
-    by false false p_is q_is = refl
+same_test p q xs k same among = grind (arith, passes p xs k, passes q xs k, kept p xs k among, kept q xs k among)
 
-same_bit : (a b : ℕ) → a < 2 → b < 2 → (a == 1) ≡ (b == 1) → a ≡ b
-same_bit zero zero x y e = refl
-same_bit zero (suc b) x y e = let one : suc b ≡ 1 = omega arith in absurd (both_ways false refl (e ∙ eq-eqb (suc b) 1 one))
-same_bit (suc a) zero x y e = let one : suc a ≡ 1 = omega arith in absurd (both_ways false refl (sym e ∙ eq-eqb (suc a) 1 one))
-same_bit (suc a) (suc b) x y e = omega arith
+pub same_bit : (a b : ℕ) → a < 2 → b < 2 → (a == 1) ≡ (b == 1) → a ≡ b
+same_bit a b x y e = grind (arith, nat_tests)
 
 same_set : (set other : ℕ) → IsKnownSet set → IsKnownSet other → members set ≡ members other → set ≡ other
 unfolding members
-same_set set other known known' same = same_from_bits set other (λ i. same_bit (bit_at set i) (bit_at other i) (bit_at-lt set i) (bit_at-lt other i) (by i (is_in_set set i) (is_in_set other i) refl refl))
+same_set set other known known' same = same_from_bits set other (λ i. same_bit (bit_at set i) (bit_at other i) (bit_at-lt set i) (bit_at-lt other i) (each i))
   where
     at : (i : ℕ) → is_known i ≡ true → is_in_set set i ≡ is_in_set other i
     at i is = same_test (is_in_set set) (is_in_set other) (standard_signals ++ realtime_signals) i same (one_of_both standard_signals realtime_signals i ∙ is)
 
-    by : (i : ℕ) (a b : Bool) → is_in_set set i ≡ a → is_in_set other i ≡ b → is_in_set set i ≡ is_in_set other i
-    by i true b is is' = at i (known i is)
-    by i false true is is' = at i (known' i is')
-    by i false false is is' = is ∙ sym is'
+    each : (i : ℕ) → is_in_set set i ≡ is_in_set other i
+    each i = grind (arith, known i, known' i, at i)
 
 -- a set ends where no number and no comma follows
 pub set_told : (set other : ℕ) (r s : List ℕ) → IsKnownSet set → IsKnownSet other → Stops in_list r → Stops in_list s → bits_text set ++ r ≡ bits_text other ++ s → (set ≡ other) × (r ≡ s)

@@ -1,16 +1,15 @@
 -- Members, objects and lists are read as they are written.
-use Rattle.std.proofs.Common.{◌≡◌, ◌∙◌, ◌<◌, ◌≤◌, ◌+◌, ◌^◌, ℕ, ℤ, zero, suc, Bool, List, [], ◌∷◌, ◌++◌, Option, Some, None, ap, append_assoc, arith, length, length-append, refl}
+use Rattle.std.proofs.Common.{◌≡◌, ◌∙◌, ◌<◌, ◌≤◌, ◌^◌, ℕ, ℤ, zero, suc, Bool, List, [], ◌∷◌, ◌++◌, Option, Some, None, ap, append_assoc, arith, length, length-append, refl}
 use Rattle.std.proofs.lemmas.List.Elements.{All-head, All-tail}
 use Rattle.std.specs.Int.{w64}
 use Rattle.std.specs.List.{All}
 use Rattle.std.specs.Prelude.{FitsSigned}
-use Rattle.hex.specs.Hex.{encode_lower, IsBytes}
 use Rattle.json.specs.Json.{after_end_array}
 use Rattle.json.specs.Token.{Token}
 use Rattle.tx_json.specs.Each.{each_tokens}
-use Rattle.tx_json.specs.Members.{begin_list, begin_object, count_member, end_list, end_object, flag_member, list_member, number_member, word_member}
-use Rattle.tx_faithful.proofs.NumbersRead.{bytes_read, count_read, number_read, same_bytes}
-use Rattle.tx_faithful.specs.Reading.{◌>>=◌, bytes_in, count_at, count_in, flag_in, items_by, items_step, list_in, number_at, number_in, object_by, word_in, Read}
+use Rattle.tx_json.specs.Members.{begin_list, begin_object, count_member, end_list, end_object, flag_member, list_member, number_member}
+use Rattle.tx_faithful.proofs.NumbersRead.{count_read, number_read, same_bytes}
+use Rattle.tx_faithful.specs.Reading.{◌>>=◌, count_at, count_in, flag_in, items_by, items_step, list_in, number_at, number_in, object_by, Read}
 
 -- ---- members
 
@@ -23,17 +22,9 @@ module _ (name : List ℕ) where
   unfolding number_at number_in number_member
   number_in_read z rest fits = rw (same_bytes name, number_read z fits) refl
 
-  pub word_in_read : (word : List ℕ) (rest : List Token) → word_in name (word_member name word ++ rest) ≡ Some (word, rest)
-  unfolding word_in word_member
-  word_in_read word rest = rw (same_bytes name) refl
-
   pub flag_in_read : (flag : Bool) (rest : List Token) → flag_in name (flag_member name flag ++ rest) ≡ Some (flag, rest)
   unfolding flag_in flag_member
   flag_in_read flag rest = rw (same_bytes name) refl
-
-  pub bytes_in_read : (bytes : List ℕ) (rest : List Token) → IsBytes bytes → bytes_in name (word_member name (encode_lower bytes) ++ rest) ≡ Some (bytes, rest)
-  unfolding bytes_in word_in word_member
-  bytes_in_read bytes rest are = rw (same_bytes name, bytes_read bytes are) refl
 
 -- ---- one thing behind another
 

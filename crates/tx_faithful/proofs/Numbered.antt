@@ -35,23 +35,15 @@ module _ (word : List ℕ) (mark : ℕ) (marks : in_number mark ≡ false) (numb
 
   next_not_yet : (n : ℕ) (x : Option (List ℕ)) (R : List ℕ) → n < limit → NotYet (suc n) R → NotYet n (numbered word mark (number n) x ++ R)
   unfolding NotYet
-  next_not_yet n None R inside not_yet i t below e = not_yet i t (omega arith) e
-  next_not_yet n (Some u) R inside not_yet i t below e =
-      let same : n ≡ i = (same_number n i (u ++ R) t inside (omega arith) (sym (with_rest n u R) ∙ e)).0 in
-      omega arith
+  next_not_yet n x R inside not_yet = grind (arith, same_number, with_rest)
 
   next_follows : (n : ℕ) (x : Option (List ℕ)) (R : List ℕ) → Follows R → Follows (numbered word mark (number n) x ++ R)
-  next_follows n None R so = so
-  next_follows n (Some t) R so = subst Follows (sym (with_rest n t R)) (follows (decimal (number n) ++ mark ∷ (t ++ R)))
+  next_follows n x R so = grind (arith, with_rest)
 
   one : (n : ℕ) (x y : Option (List ℕ)) (R S : List ℕ) (Same : Type 0) → n < limit → NotYet (suc n) R → NotYet (suc n) S → Tells x y R S Same →
       numbered word mark (number n) x ++ R ≡ numbered word mark (number n) y ++ S → Same × (R ≡ S)
   unfolding NotYet
-  one n None None R S Same inside r s tells e = (tells, e)
-  one n None (Some u) R S Same inside r s tells e = absurd (r n (u ++ S) (omega arith) (e ∙ with_rest n u S))
-  one n (Some t) None R S Same inside r s tells e = absurd (s n (t ++ R) (omega arith) (sym e ∙ with_rest n t R))
-  one n (Some t) (Some u) R S Same inside r s tells e =
-      tells (same_number n n (t ++ R) (u ++ S) inside inside (sym (with_rest n t R) ∙ e ∙ with_rest n u S)).1
+  one n x y R S Same inside r s tells e = grind (arith, same_number, with_rest)
 
   module _ (xs ys : ℕ → Option (List ℕ)) (Same : ℕ → Type 0)
       (tells : (i : ℕ) (R S : List ℕ) → i < limit → Follows R → Follows S → Tells (xs i) (ys i) R S (Same i)) where

@@ -1,5 +1,5 @@
 -- Numbers and bytes are read as they are spelled.
-use Rattle.std.proofs.Common.{◌≡◌, ◌∙◌, ◌<◌, ◌≤◌, ◌+◌, ◌-◌, ◌*◌, ◌/◌, ◌%◌, ◌^◌, ℕ, ℤ, zero, suc, pos, negsuc, true, List, [], ◌∷◌, ◌++◌, Some, ap, arith, fold, get_or, option_and_then, option_map, refl}
+use Rattle.std.proofs.Common.{◌≡◌, ◌∙◌, ◌<◌, ◌≤◌, ◌+◌, ◌-◌, ◌*◌, ◌%◌, ◌^◌, ℕ, ℤ, suc, pos, negsuc, true, List, [], ◌∷◌, Some, ap, arith, get_or, option_and_then, refl}
 use Rattle.std.proofs.lemmas.Fmt.{decimal_by_steps, decimal_digit, first_decimal}
 use Rattle.std.proofs.lemmas.List.Sums.{fold-append}
 use Rattle.std.proofs.lemmas.Bool.{ne_eqb}
@@ -8,7 +8,7 @@ use Rattle.std.specs.Fmt.{decimal, signed_decimal}
 use Rattle.std.specs.Int.{w64}
 use Rattle.std.specs.Prelude.{FitsSigned}
 use Rattle.std.specs.Str.{bytes_eq}
-use Rattle.hex.specs.Hex.{decode_of, encode_lower, IsBytes}
+use Rattle.hex.specs.Hex.{encode_lower, IsBytes}
 use Rattle.hex.proofs.HexLemmas.{decode_of-encode_lower}
 use Rattle.tx_faithful.specs.Numbers.{bytes_of, count_of, negative_of, number_of, unless_faulty, value_of}
 
@@ -30,12 +30,10 @@ count_read n small = rw (value_decimal n small, same_bytes (decimal n)) refl
 -- no digits begin with `-`
 number_by_digits : (digits : List ℕ) (n : ℕ) → 48 ≤ get_or digits 0 0 → count_of digits ≡ Some n → number_of digits ≡ Some (pos n)
 unfolding number_of
-number_by_digits [] n first found = absurd (omega (arith, first))
-number_by_digits (digit ∷ digits) n first found = rw (ne_eqb digit 45 (λ e. omega (arith, first, e))) (ap (option_map (λ (n : ℕ). pos n)) found)
+number_by_digits digits n first found = grind (arith, ne_eqb, pos)
 
 first_digit : (n : ℕ) → n < 2 ^ 64 → 48 ≤ get_or (decimal n) 0 0
-first_digit zero small = let is = ap (λ (l : List ℕ). get_or l 0 0) (decimal_digit 0 (omega arith)) in omega (arith, is)
-first_digit (suc n) small = let above = first_decimal (suc n) (omega arith) small in omega (arith, above)
+first_digit n small = grind (arith, decimal_digit, first_decimal)
 
 negative_read : (n : ℕ) → count_of (decimal (suc n)) ≡ Some (suc n) → number_of (45 ∷ decimal (suc n)) ≡ Some (negsuc n)
 unfolding number_of

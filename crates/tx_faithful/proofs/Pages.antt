@@ -2,7 +2,6 @@
 use Rattle.std.proofs.Common.{◌≡◌, ℕ, zero, suc, ◌<◌, ◌≤◌, Bool, true, false, ◌==◌, List, [], ◌∷◌, ◌++◌, codes, Option, Some, None, drop, length, refl, sym, ap, ◌∙◌, arith, append_assoc, subst}
 use Rattle.std.specs.Prelude.{All, slice_index}
 use Rattle.std.proofs.lemmas.List.{ext_get_or}
-use Rattle.std.specs.Fmt.{decimal}
 use Rattle.hex.specs.Hex.{IsBytes}
 use Rattle.tx_base.specs.declared.limits.TheConstants.{PAGES, PAGE_BYTES}
 use Rattle.tx_model.specs.Memory.{Memory, PageView}
@@ -24,8 +23,7 @@ byte_rest (suc byte) = Some (two_digits (suc byte))
 
 byte_numbered : (offset byte : ℕ) → byte_text offset byte ≡ numbered (32 ∷ []) 61 offset (byte_rest byte)
 unfolding byte_rest
-byte_numbered offset zero = refl
-byte_numbered offset (suc byte) = refl
+byte_numbered offset byte = grind arith
 
 told_by_digits : (a b : ℕ) (R S : List ℕ) → a < 256 → b < 256 → Tells (byte_rest a) (byte_rest b) R S (a ≡ b)
 unfolding byte_rest
@@ -61,8 +59,7 @@ bytes_stop bytes R = keeps_upto (Stops is_writing) (λ offset. byte_text offset 
     by offset (suc byte) t so = refl
 
 not_writable : (r s : List ℕ) → Stops is_writing r → r ≡ 119 ∷ s → ⊥
-not_writable [] s stops e = absurd (cc)
-not_writable (byte ∷ r) s stops e = other_byte 0 e stops
+not_writable r s stops e = grind (arith, other_byte)
 
 flag_end : Bool → List ℕ
 flag_end true = codes "rw"
@@ -70,8 +67,7 @@ flag_end false = codes "r"
 
 flag_is : (flag : Bool) → flag_text flag ≡ 32 ∷ flag_end flag
 unfolding flag_end
-flag_is true = refl
-flag_is false = refl
+flag_is flag = grind arith
 
 flag_told : (a b : Bool) (r s : List ℕ) → Stops is_writing r → Stops is_writing s → flag_end a ++ r ≡ flag_end b ++ s → (a ≡ b) × (r ≡ s)
 unfolding flag_end
@@ -86,8 +82,7 @@ page_rest (Some page) = Some (flag_end page.writable ++ (bytes_of page.bytes ++ 
 
 page_numbered : (number : ℕ) (x : Option PageView) → page_line number x ≡ numbered (codes "page ") 32 number (page_rest x)
 unfolding page_rest
-page_numbered number None = refl
-page_numbered number (Some page) = ap (λ (t : List ℕ). codes "page " ++ (decimal number ++ (t ++ (bytes_of page.bytes ++ 10 ∷ [])))) (flag_is page.writable)
+page_numbered number x = grind (arith, flag_is)
 
 page_told : (x y : Option PageView) (R S : List ℕ) → IsWholePage x → IsWholePage y → HasBytes x → HasBytes y → Tells (page_rest x) (page_rest y) R S (x ≡ y)
 unfolding page_rest

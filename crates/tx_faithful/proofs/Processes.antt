@@ -34,13 +34,7 @@ three_told a b c x y z R S a_in b_in c_in x_in y_in z_in r s e =
     (first.0, second.0, third.0, third.1)
 
 all_root : (a b c d e f : ℕ) → (a == 0 && b == 0 && c == 0 && d == 0 && e == 0 && f == 0) ≡ true → (a ≡ 0) × (b ≡ 0) × (c ≡ 0) × (d ≡ 0) × (e ≡ 0) × (f ≡ 0)
-all_root a b c d e f h =
-    let six = and_parts (a == 0 && b == 0 && c == 0 && d == 0 && e == 0) (f == 0) h in
-    let five = and_parts (a == 0 && b == 0 && c == 0 && d == 0) (e == 0) six.0 in
-    let four = and_parts (a == 0 && b == 0 && c == 0) (d == 0) five.0 in
-    let three = and_parts (a == 0 && b == 0) (c == 0) four.0 in
-    let two = and_parts (a == 0) (b == 0) three.0 in
-    (eqb-true a 0 two.0, eqb-true b 0 two.1, eqb-true c 0 three.1, eqb-true d 0 four.1, eqb-true e 0 five.1, eqb-true f 0 six.1)
+all_root a b c d e f h = grind (arith, and_parts, eqb-true)
 
 abbrev user : Ids → List ℕ
 user ids = three_ids ids.real_user ids.effective_user ids.saved_user
@@ -104,19 +98,10 @@ status_told m n R S m_in n_in e = by (nat_lt m 256) (nat_lt n 256) refl refl e
         (omega arith, ap (drop 1) told.1)
 
 end_stops : (status : Option ℕ) (regs : Regs) (R : List ℕ) → Stops in_number (end_text status regs ++ R)
-end_stops None regs R = refl
-end_stops (Some status) regs R = by (nat_lt status 256)
-  where
-    by : (b : Bool) → Stops in_number ((if b then codes " exit " ++ (decimal status ++ 10 ∷ []) else codes " killed " ++ (decimal (status - 256) ++ 10 ∷ [])) ++ R)
-    by true = refl
-    by false = refl
+end_stops status regs R = grind (arith, in_number)
 
 runs_not : (regs : Regs) (status : ℕ) (R S : List ℕ) → run_text regs ++ R ≡ status_text status ++ S → ⊥
-runs_not regs status R S e = by (nat_lt status 256) e
-  where
-    by : (b : Bool) → run_text regs ++ R ≡ (if b then codes " exit " ++ (decimal status ++ 10 ∷ []) else codes " killed " ++ (decimal (status - 256) ++ 10 ∷ [])) ++ S → ⊥
-    by true same = other_byte 1 same refl
-    by false same = other_byte 1 same refl
+runs_not regs status R S e = grind (arith, other_byte)
 
 -- the end of a process's first line tells its status, and with the slots its registers as they are shown
 end_told : (x y : Option ℕ) (a b : Regs) (R S : List ℕ) → IsStatus x → IsStatus y → a.point ≤ LAST_POINT → b.point ≤ LAST_POINT → FitsSigned w64 a.ret → FitsSigned w64 b.ret →
@@ -153,8 +138,7 @@ process_rest (Some q) = Some (codes "parent " ++ (head_end q ++ own_text q))
 
 process_numbered : (number : ℕ) (x : Option Process) → process_lines number x ≡ numbered (codes "proc ") 32 number (process_rest x)
 unfolding process_rest
-process_numbered number None = refl
-process_numbered number (Some q) = ap (λ (t : List ℕ). codes "proc " ++ t) (append_assoc (decimal number) (codes " parent " ++ head_end q) (own_text q))
+process_numbered number x = grind (arith, append_assoc)
 
 module _ (q : Process) (R : List ℕ) (r : 9 < rank R) where
   after_pages : 3 < rank ((fds_text q.descriptors ++ signals_text q) ++ R)
@@ -164,8 +148,7 @@ module _ (q : Process) (R : List ℕ) (r : 9 < rank R) where
   after_slots = rank_front 3 (pages_text q.memory) (fds_text q.descriptors ++ signals_text q) R (pages_rank q.memory ((fds_text q.descriptors ++ signals_text q) ++ R) (omega (arith, after_pages)))
 
   after_ids : 1 < rank ((slots_line q.registers.slots ++ (pages_text q.memory ++ (fds_text q.descriptors ++ signals_text q))) ++ R)
-  after_ids = rank_front 2 (slots_line q.registers.slots) (pages_text q.memory ++ (fds_text q.descriptors ++ signals_text q)) R
-      (slots_rank q.registers.slots ((pages_text q.memory ++ (fds_text q.descriptors ++ signals_text q)) ++ R) (omega (arith, after_slots)))
+  after_ids = grind (arith, after_slots, rank_front, slots_rank)
 
 process_told : (x y : Option Process) (R S : List ℕ) → IsTellableAt x → IsTellableAt y → 9 < rank R → 9 < rank S → Tells (process_rest x) (process_rest y) R S (shown x ≡ shown y)
 unfolding process_rest

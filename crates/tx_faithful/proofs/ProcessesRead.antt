@@ -1,6 +1,6 @@
 -- Processes are read as they are written.
-use Rattle.std.proofs.Common.{◌≡◌, ◌≢◌, ◌∙◌, ◌<◌, ◌≤◌, ◌+◌, ◌-◌, ◌^◌, ◌⊎◌, ◌||◌, ℕ, Bool, true, false, cond, List, [], ◌∷◌, ◌++◌, Option, Some, None, ap, append_assoc, arith, codes, get_or, length, refl, subst, nat_lt}
-use Rattle.std.proofs.lemmas.Bool.{ltb-false}
+use Rattle.std.proofs.Common.{◌≡◌, ◌∙◌, ◌<◌, ◌≤◌, ◌+◌, ◌-◌, ◌^◌, ◌||◌, ℕ, Bool, true, false, cond, List, [], ◌∷◌, ◌++◌, Option, Some, None, ap, append_assoc, arith, codes, get_or, length, refl, subst, nat_lt}
+use Rattle.std.proofs.lemmas.Bool.{ltb-false, or_right}
 use Rattle.std.proofs.lemmas.List.Elements.{All-cons, All-nil}
 use Rattle.std.specs.Int.{w64}
 use Rattle.std.specs.List.{All}
@@ -23,9 +23,10 @@ use Rattle.tx_json.specs.Members.{begin_object, count_member, end_object, flag_m
 use Rattle.tx_json.specs.Processes.{end_members, ids_members, own_members, page_item, pages_member, process_item, registers_members, three_ids}
 use Rattle.tx_json.specs.Signals.{action_item, actions_member, entry_item, frame_item, frames_member, queued_member, signals_members}
 use Rattle.tx_faithful.proofs.Gathered.{all_numbered, found_there, listed_read, or_nothing, table_whole}
+use Rattle.tx_faithful.proofs.Lists.{known_small, IsKnownSet}
 use Rattle.tx_faithful.proofs.MembersRead.{count_in_read, ends_with, goes_on, goes_on_there, list_read, number_in_read, object_read, IsItem}
 use Rattle.tx_faithful.proofs.NumbersRead.{bytes_read, count_read, number_read}
-use Rattle.tx_faithful.proofs.SignalsRead.{or_right, count_is_item, known_small, numbers_read, set_read, IsCount, IsKnownSet}
+use Rattle.tx_faithful.proofs.SignalsRead.{count_is_item, numbers_read, set_read, IsCount}
 use Rattle.tx_faithful.specs.ReadProcesses.{three_of, SignalsTold, action_members, actions_in, entry_members, fd_members, fds_in, frame_members, ids_in, own_in, page_members, pages_in, process_members, registers_in, set_in, signals_in, status_in, table, found_at, status_by, three_in}
 use Rattle.tx_faithful.specs.Reading.{◌>>=◌, bytes_in, count_at, count_in, flag_in, list_in, number_at, number_in, object_by, word_in}
 
@@ -76,9 +77,7 @@ told_action Ignore = Some Ignore
 told_action (Catch point mask) = Some (Catch point mask)
 
 told_again : (action : Action) → unwrap_or (told_action action) Usual ≡ action
-told_again Usual = refl
-told_again Ignore = refl
-told_again (Catch point mask) = refl
+told_again action = grind arith
 
 abbrev IsTold : Action → Type 0
 IsTold Usual = ⊥
@@ -125,9 +124,7 @@ module _ (actions : List Action) (long : length actions ≡ SIGNALS) (limits : A
   told_at signo = told_action (slice_index_or actions signo Usual)
 
   one_action : (signo : ℕ) (action : Action) → action_item signo action ≡ or_nothing (object_by action_members) (λ n x. action_item n x) IsAction action_is_item signo (told_action action)
-  one_action signo Usual = refl
-  one_action signo Ignore = refl
-  one_action signo (Catch point mask) = refl
+  one_action signo action = grind arith
 
   IsGoodTold : ℕ → Option Action → Type 0
   IsGoodTold signo None = Unit {0}
@@ -174,8 +171,7 @@ page_is_item = record {
 }
 
 one_page : (n : ℕ) (page : Option PageView) → page_item n page ≡ or_nothing (object_by page_members) (λ n page. page_item n (Some page)) IsPage page_is_item n page
-one_page n None = refl
-one_page n (Some page) = refl
+one_page n page = grind arith
 
 abbrev IsFd : ℕ × ℕ → Type 0
 IsFd one = (one.0 < 2 ^ 64) × (one.1 < 2 ^ 64)
@@ -189,8 +185,7 @@ fd_is_item = record {
 }
 
 one_fd : (n : ℕ) (desc : Option ℕ) → fd_item n desc ≡ or_nothing (object_by fd_members) (λ n desc. fd_item n (Some desc)) IsFd fd_is_item n desc
-one_fd n None = refl
-one_fd n (Some desc) = refl
+one_fd n desc = grind arith
 
 -- ---- the signals of a process
 
@@ -204,10 +199,7 @@ pub good_entries : (entries : List Queued) → All IsRealtimeEntry entries → A
 good_entries entries known words i d below = (small_entry (get_or entries i d).signo (known i d below), words i d below)
 
 pub good_frames : (frames : List Frame) → All HasFrameLimits frames → All HasFrameWords frames → All IsFrame frames
-good_frames frames limits words i d below =
-    let frame = get_or frames i d in
-    let small = (limits i d below).point in
-    record { point = omega (arith, small); ret = (words i d below).ret; slots = (words i d below).slots; mask = (limits i d below).mask.known }
+good_frames frames limits words = grind arith
 
 module _ (q : Process) (sizes : HasSizes q) (limits : HasLimits q) (types : HasTypes q) where
   abbrev told_signals : SignalsTold

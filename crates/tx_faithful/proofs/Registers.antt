@@ -1,10 +1,8 @@
 -- The numbers in slots, in a text.
-use Rattle.std.proofs.Common.{◌≡◌, ℕ, ◌<◌, ◌≤◌, true, List, [], ◌∷◌, ◌++◌, codes, drop, get_or, length, refl, sym, ap, ◌∙◌, arith}
-use Rattle.std.specs.Prelude.{All, ℤ, pos, FitsSigned}
+use Rattle.std.proofs.Common.{◌≡◌, ℕ, ◌<◌, ◌≤◌, true, List, [], ◌∷◌, ◌++◌, codes, drop, get_or, length, refl, ap, arith}
+use Rattle.std.specs.Prelude.{All, ℤ, FitsSigned}
 use Rattle.std.specs.Int.{w64}
-use Rattle.std.specs.Ordering.{int_eq}
 use Rattle.std.proofs.lemmas.Bool.Decides.{Decides-int_eq}
-use Rattle.std.proofs.lemmas.Bool.{and_parts}
 use Rattle.tx_text.specs.Each.{each_text}
 use Rattle.tx_text.specs.Registers.{is_blank_of, slot_text, slots_end, slots_line}
 use Rattle.tx_faithful.proofs.Fronts.{in_number, regroup, signed_told, Stops}
@@ -17,16 +15,10 @@ abbrev pub EndsLine : List ℕ → Type 0
 EndsLine bytes = get_or bytes 0 0 ≡ 10
 
 pub end_stops : (bytes : List ℕ) → EndsLine bytes → Stops in_number bytes
-end_stops [] end = tt
-end_stops (byte ∷ rest) end = ap in_number end
+end_stops bytes end = grind (arith, in_number)
 
 slots_are : AreItems slot_text (λ z. z) (FitsSigned w64) (Stops in_number) EndsLine
-slots_are = record {
-  told = λ x y R S x_fits y_fits r s e. signed_told x y R S x_fits y_fits r s (ap (drop 1) e);
-  follows = λ x R. refl;
-  ends = end_stops;
-  no_end = λ x R S end e. let first : 32 ≡ get_or S 0 0 = ap (λ (t : List ℕ). get_or t 0 0) e in omega arith;
-}
+slots_are = grind (arith, end_stops, signed_told)
 
 pub slots_end_told : (xs ys : List ℤ) (R S : List ℕ) → All (FitsSigned w64) xs → All (FitsSigned w64) ys → slots_end xs ++ R ≡ slots_end ys ++ S → (xs ≡ ys) × (R ≡ S)
 slots_end_told xs ys R S x_fits y_fits e =
@@ -42,12 +34,7 @@ blank_same : (xs ys : List ℤ) → length xs ≡ length ys → is_blank_of xs �
 blank_same [] [] count x_blank y_blank = refl
 blank_same [] (y ∷ ys) count x_blank y_blank = absurd (omega arith)
 blank_same (x ∷ xs) [] count x_blank y_blank = absurd (omega arith)
-blank_same (x ∷ xs) (y ∷ ys) count x_blank y_blank =
-    let left = and_parts (int_eq x (pos 0)) (is_blank_of xs) x_blank in
-    let right = and_parts (int_eq y (pos 0)) (is_blank_of ys) y_blank in
-    let first : x ≡ y = (Decides-int_eq x (pos 0)).0 left.0 ∙ sym ((Decides-int_eq y (pos 0)).0 right.0) in
-    let rest : xs ≡ ys = blank_same xs ys (omega arith) left.1 right.1 in
-    λ j. first j ∷ rest j
+blank_same (x ∷ xs) (y ∷ ys) count x_blank y_blank = grind (arith, Decides-int_eq, blank_same xs ys)
 
 pub slots_told : (xs ys : List ℤ) (R S : List ℕ) → length xs ≡ length ys → All (FitsSigned w64) xs → All (FitsSigned w64) ys → 2 < rank R → 2 < rank S →
     slots_line xs ++ R ≡ slots_line ys ++ S → (xs ≡ ys) × (R ≡ S)

@@ -1,5 +1,5 @@
 -- Replies are read as they are written.
-use Rattle.std.proofs.Common.{◌≡◌, ◌∙◌, ◌<◌, ◌≤◌, ◌+◌, ◌^◌, ℕ, List, [], ◌∷◌, ◌++◌, Option, Some, None, ap, arith, codes, refl}
+use Rattle.std.proofs.Common.{◌≡◌, ◌<◌, ◌^◌, ℕ, List, [], ◌∷◌, ◌++◌, Option, Some, None, arith, codes, refl}
 use Rattle.std.specs.List.{All}
 use Rattle.json.specs.Token.{Token}
 use Rattle.tx_base.specs.Errors.{error_number}
@@ -17,20 +17,12 @@ use Rattle.tx_json.specs.Replies.{error_members, missed_tokens, refusal_members,
 use Rattle.tx_faithful.proofs.MembersRead.{list_read, IsItem}
 use Rattle.tx_faithful.proofs.NumbersRead.{bytes_read, count_read, number_read, same_bytes}
 use Rattle.tx_faithful.specs.ReadBack.{told_of, IsTypedMissed, IsTypedRefusal, IsTypedReply}
-use Rattle.tx_faithful.specs.ReadReplies.{answer_in, behind_error, errors, missed_at, missed_members, numbered_by, or_else, refusal_in, reply_in, step_members}
+use Rattle.tx_faithful.specs.ReadReplies.{answer_in, behind_error, errors, missed_at, missed_members, numbered_by, refusal_in, reply_in, step_members}
 use Rattle.tx_faithful.specs.Reading.{bytes_in, count_at, count_in, list_in, number_at, number_in, object_by, whole, word_in}
 use Rattle.tx_text.specs.Replies.{error_name}
 
 pub small_error : (errno : Errno) → error_number errno < 2 ^ 64
-small_error NotPermitted = omega arith
-small_error NoSuchProcess = omega arith
-small_error BadDescriptor = omega arith
-small_error NoChild = omega arith
-small_error TryAgain = omega arith
-small_error BadAddress = omega arith
-small_error InvalidArgument = omega arith
-small_error TooManyDescriptors = omega arith
-small_error BrokenPipe = omega arith
+small_error errno = grind arith
 
 error_read : (errno : Errno) → numbered_by errors (error_number errno) ≡ Some errno
 error_read NotPermitted = refl
@@ -82,8 +74,7 @@ refusal_read Deferred rest typed = refl
 
 refused_reply : (refusal : Refusal) (rest : List Token) → IsTypedRefusal refusal → reply_in (refusal_members refusal ++ rest) ≡ Some (No refusal, rest)
 unfolding reply_in
-refused_reply refusal rest typed =
-    ap (λ (found : Option (Reply × List Token)). or_else found (answer_in (refusal_members refusal ++ rest))) (refusal_read refusal rest typed)
+refused_reply refusal rest typed = grind (arith, refusal_read)
 
 -- the name of an error, where there has to be one
 name_read : (name : Option (List ℕ)) (rest : List Token) → behind_error name (error_members name ++ rest) ≡ Some rest

@@ -1,13 +1,13 @@
 -- The signals of a process in a text.
-use Rattle.std.proofs.Common.{◌≡◌, ℕ, ◌<◌, ◌≤◌, Bool, true, false, ◌&&◌, ◌||◌, ◌==◌, List, [], ◌∷◌, ◌++◌, codes, Option, Some, None, drop, get_or, length, refl, sym, ap, ◌∙◌, arith, append_assoc, eqb-true}
-use Rattle.std.specs.Prelude.{All, nat_lt}
+use Rattle.std.proofs.Common.{◌≡◌, ℕ, ◌<◌, ◌≤◌, true, ◌==◌, List, [], ◌∷◌, ◌++◌, codes, Option, Some, None, drop, get_or, length, refl, sym, ap, ◌∙◌, arith, append_assoc, eqb-true}
+use Rattle.std.specs.Prelude.{All}
 use Rattle.std.specs.Fmt.{decimal, signed_decimal}
-use Rattle.std.proofs.lemmas.Bool.{both_ways, and_parts, or_left, or_right}
+use Rattle.std.proofs.lemmas.Bool.{or_left, or_right}
 use Rattle.tx_base.specs.Signals.{bits_of}
 use Rattle.tx_base.specs.declared.limits.TheConstants.{SIGNALS}
 use Rattle.tx_base.specs.declared.signals.Action.{Action}
 use Rattle.tx_base.specs.declared.signals.Action.TheVariants.{Usual, Ignore, Catch}
-use Rattle.tx_model.specs.SignalSets.{is_known, is_one_of, is_realtime, realtime_signals, standard_signals}
+use Rattle.tx_model.specs.SignalSets.{is_one_of, is_realtime, standard_signals}
 use Rattle.tx_model.specs.State.{Frame, Process, Queued}
 use Rattle.tx_laws.specs.WellFormed.{HasActionLimits, HasFrameLimits, HasLimits, HasSizes, IsRealtimeEntry}
 use Rattle.tx_lines.specs.Sets.{bits_text, set_text}
@@ -17,30 +17,11 @@ use Rattle.tx_text.specs.Signals.{action_line, actions_text, entry_text, frame_t
 use Rattle.tx_faithful.specs.Told.{HasEntryWord, HasFrameWords, HasTypes}
 use Rattle.tx_faithful.proofs.Fronts.{in_number, number_told, other_byte, regroup, signed_told, Stops}
 use Rattle.tx_faithful.proofs.Items.{all_told, AreItems, items_follow, optional_rank, optional_told, rank_front}
-use Rattle.tx_faithful.proofs.Lists.{IsKnownSet, set_told, one_of_both}
+use Rattle.tx_faithful.proofs.Lists.{IsKnownSet, known_small, set_told}
 use Rattle.tx_faithful.proofs.Lines.{AreLines, list_rank, list_told}
 use Rattle.tx_faithful.proofs.Numbered.{numbered, Tells}
 use Rattle.tx_faithful.proofs.Ranks.{rank}
 use Rattle.tx_faithful.proofs.Registers.{end_stops, EndsLine, slots_end_told, slots_stop}
-use borrow.Author.Tests.{ltb-true}
-
-all_below : List ℕ → Bool
-all_below [] = true
-all_below (n ∷ ns) = nat_lt n 64 && all_below ns
-
-one_below : (ns : List ℕ) (k : ℕ) → all_below ns ≡ true → is_one_of ns k ≡ true → k < 64
-unfolding all_below
-one_below [] k below is = absurd (both_ways false refl is)
-one_below (n ∷ ns) k below is = by (n == k) refl is (one_below ns k (and_parts (nat_lt n 64) (all_below ns) below).1)
-  where
-    by : (b : Bool) → (n == k) ≡ b → (b || is_one_of ns k) ≡ true → (is_one_of ns k ≡ true → k < 64) → k < 64
-    by true same is rest = let at : n ≡ k = eqb-true n k same in let small : n < 64 = ltb-true n 64 (and_parts (nat_lt n 64) (all_below ns) below).0 in omega arith
-    by false other is rest = rest is
-
--- the number of a known signal is small
-pub known_small : (signo : ℕ) → is_known signo ≡ true → signo < 64
-unfolding all_below
-known_small signo known = one_below (standard_signals ++ realtime_signals) signo refl (one_of_both standard_signals realtime_signals signo ∙ known)
 
 -- a line of a set, where the set is not empty
 module _ (k : ℕ) (word : List ℕ) (ranked : (t : List ℕ) → rank (word ++ t) ≡ k) (cut : (s t : List ℕ) → word ++ s ≡ word ++ t → s ≡ t) where
@@ -68,9 +49,7 @@ action_rest (Catch point mask) = Some (codes "catch " ++ (decimal point ++ 32 �
 
 action_numbered : (signo : ℕ) (x : Action) → action_line signo x ≡ numbered (codes "action ") 32 signo (action_rest x)
 unfolding action_rest
-action_numbered signo Usual = refl
-action_numbered signo Ignore = refl
-action_numbered signo (Catch point mask) = refl
+action_numbered signo x = grind arith
 
 action_told : (x y : Action) (R S : List ℕ) → HasActionLimits x → HasActionLimits y → Tells (action_rest x) (action_rest y) R S (x ≡ y)
 unfolding action_rest
@@ -102,9 +81,9 @@ entries_are : AreItems entry_text (λ x. x) IsGoodEntry (Stops in_number) EndsLi
 unfolding IsGoodEntry
 entries_are = record {
   told = λ x y R S in_x in_y r s e.
-      (let small : (z : Queued) → IsRealtimeEntry z → z.signo < 64 = λ z is. known_small z.signo (or_right (is_one_of standard_signals z.signo) (is_realtime z.signo) is) in
-      let x_small : x.signo < 64 = small x in_x.0 in
-      let y_small : y.signo < 64 = small y in_y.0 in
+      (let small : (z : Queued) → IsRealtimeEntry z → z.signo < 40 = λ z is. known_small z.signo (or_right (is_one_of standard_signals z.signo) (is_realtime z.signo) is) in
+      let x_small : x.signo < 40 = small x in_x.0 in
+      let y_small : y.signo < 40 = small y in_y.0 in
       let signo = number_told x.signo y.signo (58 ∷ (signed_decimal x.value ++ R)) (58 ∷ (signed_decimal y.value ++ S)) (omega arith) (omega arith) refl refl
       (regroup (decimal x.signo) (58 ∷ signed_decimal x.value) R (decimal y.signo) (58 ∷ signed_decimal y.value) S (ap (drop 1) e)) in
       let value = signed_told x.value y.value R S in_x.1 in_y.1 r s (ap (drop 1) signo.1) in
@@ -153,12 +132,7 @@ frame_told x y R S x_limits y_limits x_words y_words e =
 
 frames_are : AreItems frame_text (λ x. x) IsGoodFrame (λ t. 9 ≤ rank t) (λ t. 9 < rank t)
 unfolding IsGoodFrame
-frames_are = record {
-  told = λ x y R S in_x in_y r s e. frame_told x y R S in_x.0 in_y.0 in_x.1 in_y.1 e;
-  follows = λ x R. omega arith;
-  ends = λ R end. omega arith;
-  no_end = λ x R S end e. let at : 9 ≡ rank S = ap rank e in omega arith;
-}
+frames_are = grind (arith, frame_told, rank)
 
 -- two processes have the same of signals
 pub record HaveSameSignals (p q : Process) : Type 0 where
@@ -173,12 +147,10 @@ module _ (p : Process) (R : List ℕ) (r : 9 < rank R) where
   after_queue = items_follow frames_are p.frames R r
 
   after_pending : 7 < rank ((queued_line p.queued ++ frames_text p.frames) ++ R)
-  after_pending = rank_front 8 (queued_line p.queued) (frames_text p.frames) R
-      (optional_rank 8 (length p.queued == 0) (codes "queued" ++ (each_text entry_text p.queued ++ 10 ∷ [])) (frames_text p.frames ++ R) (λ t. refl) (omega (arith, after_queue)))
+  after_pending = grind (arith, after_queue, optional_rank, rank_front)
 
   after_actions : 6 < rank ((set_line (codes "pending ") p.pending ++ (queued_line p.queued ++ frames_text p.frames)) ++ R)
-  after_actions = rank_front 7 (set_line (codes "pending ") p.pending) (queued_line p.queued ++ frames_text p.frames) R
-      (set_line_rank 7 (codes "pending ") (λ t. refl) (λ s t same. ap (drop 8) same) p.pending ((queued_line p.queued ++ frames_text p.frames) ++ R) (omega (arith, after_pending)))
+  after_actions = grind (arith, after_pending, rank_front, set_line_rank)
 
   after_mask : 5 < rank ((actions_text p.actions ++ (set_line (codes "pending ") p.pending ++ (queued_line p.queued ++ frames_text p.frames))) ++ R)
   after_mask = rank_front 6 (actions_text p.actions) (set_line (codes "pending ") p.pending ++ (queued_line p.queued ++ frames_text p.frames)) R

@@ -1,5 +1,5 @@
 -- What is written of a state can be printed.
-use Rattle.std.proofs.Common.{◌≡◌, ◌∙◌, ◌<◌, ◌≤◌, ◌+◌, ◌-◌, ◌^◌, ℕ, ℤ, zero, suc, Bool, true, false, cond, List, [], ◌∷◌, ◌++◌, Option, Some, None, arith, codes, nat_lt, refl, subst, sym}
+use Rattle.std.proofs.Common.{◌≡◌, ◌<◌, ◌≤◌, ◌+◌, ◌-◌, ◌^◌, ℕ, ℤ, zero, suc, Bool, true, false, cond, List, [], ◌++◌, Option, Some, None, arith, codes, nat_lt, refl, subst, sym}
 use Rattle.std.specs.Int.{w64}
 use Rattle.std.specs.List.{All}
 use Rattle.std.specs.Prelude.{FitsSigned, slice_index_or}
@@ -178,8 +178,7 @@ txn_printed starter told good =
 
 -- what is there can be printed, and nothing else is written
 if_there : {A : Type 0} (x : Option A) (tokens : Option A → List Token) → tokens None ≡ [] → ((found : A) → x ≡ Some found → Prints (tokens (Some found))) → Prints (tokens x)
-if_there None tokens none some = subst Prints (sym none) nothing
-if_there (Some found) tokens none some = some found refl
+if_there x tokens none some = grind (arith, nothing)
 
 module _ (V : View) (kernel : IsOfKernel V) where
   abbrev S : State
@@ -204,8 +203,7 @@ module _ (V : View) (kernel : IsOfKernel V) where
       (λ n below. if_there (S.pipes n) (pipe_item n) refl (λ bytes is. pipe_printed n bytes (omega (arith, below)))))
 
   txn_there : (n : ℕ) (told : Option TxnTold) → ((found : TxnTold) → told ≡ Some found → IsTxn (n, found)) → Prints (or_nothing (object_by txn_members) written_txn IsTxn txn_is_item n told)
-  txn_there n None good = nothing
-  txn_there n (Some found) good = txn_printed n found (good found refl)
+  txn_there n told good = grind (arith, nothing, txn_printed)
 
   txns_printed : Prints (txns_member V.table.width V.table.marks S.held)
   txns_printed =

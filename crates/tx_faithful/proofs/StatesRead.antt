@@ -1,5 +1,5 @@
 -- States are read as they are written.
-use Rattle.std.proofs.Common.{◌≡◌, ◌≢◌, ◌∙◌, ◌<◌, ◌≤◌, ◌+◌, ◌^◌, ◌⊎◌, ℕ, zero, suc, Bool, true, false, cond, List, [], ◌∷◌, ◌++◌, Option, Some, None, add-one, ap, arith, codes, inl, inr, map, nat_eq, refl, subst, sym}
+use Rattle.std.proofs.Common.{◌≡◌, ◌∙◌, ◌<◌, ◌≤◌, ◌+◌, ◌^◌, ℕ, zero, suc, Bool, true, false, cond, List, [], ◌∷◌, ◌++◌, Option, Some, None, add-one, ap, arith, codes, inl, inr, map, refl, subst, sym}
 use Rattle.std.proofs.lemmas.Bool.{both_ways, cases_lt, ltb-true}
 use Rattle.std.proofs.lemmas.Bool.Decides.{eqb_tells}
 use Rattle.std.proofs.lemmas.List.{append-nil}
@@ -25,15 +25,16 @@ use Rattle.tx_json.specs.Members.{begin_object, count_member, end_object, flag_m
 use Rattle.tx_json.specs.Processes.{process_item, procs_member}
 use Rattle.tx_json.specs.Answers.{state_answer, state_key}
 use Rattle.tx_json.specs.State.{parts_tokens, state_tokens}
-use Rattle.tx_json.specs.Txns.{held_item, mark_item, member_item, members_list, txn_item, txns_member}
+use Rattle.tx_json.specs.Txns.{held_item, mark_item, members_list, txn_item, txns_member}
 use Rattle.tx_faithful.proofs.Gathered.{all_numbered, found_nowhere, found_there, gathered_good, gathered_written, listed_read, or_nothing}
+use Rattle.tx_faithful.proofs.Lists.{known_small}
 use Rattle.tx_faithful.proofs.MembersRead.{count_in_read, ends_with, flag_in_read, goes_on, list_read, object_read, IsItem}
 use Rattle.tx_faithful.proofs.NumbersRead.{bytes_read, count_read, number_read}
 use Rattle.tx_faithful.proofs.ProcessesRead.{process_is_item, IsKernelProcess}
-use Rattle.tx_faithful.proofs.SignalsRead.{count_is_item, known_small, IsCount}
+use Rattle.tx_faithful.proofs.SignalsRead.{count_is_item, IsCount}
 use Rattle.tx_faithful.specs.ReadProcesses.{found_at, process_members}
 use Rattle.tx_faithful.specs.ReadStates.{desc_members, held_members, lists_in, parts_in, pipe_members, place_members, state_members, txn_members, StateTold, TxnTold}
-use Rattle.tx_faithful.specs.Reading.{◌>>=◌, bytes_in, count_at, count_in, flag_in, list_in, number_at, number_in, object_by, word_in}
+use Rattle.tx_faithful.specs.Reading.{bytes_in, count_at, count_in, flag_in, list_in, number_at, number_in, object_by, word_in}
 use Rattle.tx_faithful.specs.ToldStates.{members_of, told_of_view, txn_of, txn_told}
 
 -- ---- descriptions and pipes
@@ -56,8 +57,7 @@ desc_is_item = record {
 }
 
 one_desc : (n : ℕ) (desc : Option Description) → desc_item n desc ≡ or_nothing (object_by desc_members) (λ n desc. desc_item n (Some desc)) IsDesc desc_is_item n desc
-one_desc n None = refl
-one_desc n (Some desc) = refl
+one_desc n desc = grind arith
 
 abbrev IsPipe : ℕ × List ℕ → Type 0
 IsPipe one = (one.0 < 2 ^ 64) × IsBytes one.1
@@ -71,12 +71,10 @@ pipe_is_item = record {
 }
 
 one_pipe : (n : ℕ) (bytes : Option (List ℕ)) → pipe_item n bytes ≡ or_nothing (object_by pipe_members) (λ n bytes. pipe_item n (Some bytes)) IsPipe pipe_is_item n bytes
-one_pipe n None = refl
-one_pipe n (Some bytes) = refl
+one_pipe n bytes = grind arith
 
 one_process : (n : ℕ) (q : Option Process) → process_item n q ≡ or_nothing (object_by process_members) (λ n q. process_item n (Some q)) IsKernelProcess process_is_item n q
-one_process n None = refl
-one_process n (Some q) = refl
+one_process n q = grind arith
 
 -- ---- live transactions
 
@@ -149,8 +147,7 @@ txn_is_item = record {
 
 one_member : (is : Bool) (n : ℕ) → cond is (count_item n) [] ≡ each_tokens count_item (cond is (n ∷ []) [])
 unfolding count_item
-one_member true n = refl
-one_member false n = refl
+one_member is n = grind arith
 
 -- who sent what is held is not written
 held_unsigned : (sendings : List Sending) → each_tokens held_item sendings ≡ each_tokens held_item (map unsigned sendings)
@@ -159,25 +156,14 @@ held_unsigned (m ∷ sendings) = ap (λ (t : List Token). held_item m ++ t) (hel
 
 module _ (width : ℕ) (marks : ℕ → Option Mark) where
   members_written : (name : List ℕ) (starter : ℕ) (ended : Bool) → members_list name width marks starter ended ≡ list_member name (each_tokens count_item (members_of width marks starter ended))
-  members_written name starter ended =
-      ap (list_member name) (gathered_written (λ done. member_item marks starter ended (done + 1)) count_item (λ done. cond (is_listed_in (marks (done + 1)) starter ended) ((done + 1) ∷ []) [])
-      (λ done. one_member (is_listed_in (marks (done + 1)) starter ended) (done + 1)) width)
+  members_written name starter ended = grind (arith, gathered_written, one_member)
 
   txn_written : (starter : ℕ) (defers : Bool) (sendings : List Sending) → txn_item width marks starter defers sendings ≡ written_txn starter (txn_of width marks starter defers sendings)
-  txn_written starter defers sendings =
-      let lists : List Token → List Token → List Token → List Token = λ open_list ended_list held.
-      begin_object ++ (count_member (codes "txn") starter ++ (flag_member (codes "defers") defers ++ ((open_list ++ (ended_list ++ list_member (codes "held") held)) ++ end_object))) in
-      (λ i. lists (members_written (codes "open") starter false i) (members_written (codes "ended") starter true i) (held_unsigned sendings i))
+  txn_written starter defers sendings = grind (arith, held_unsigned, members_written)
 
   pub mark_written : (starter : ℕ) (sendings : List Sending) (mark : Option Mark)
       → mark_item width marks starter sendings mark ≡ or_nothing (object_by txn_members) written_txn IsTxn txn_is_item starter (txn_told width marks starter sendings mark)
-  mark_written starter sendings None = refl
-  mark_written starter sendings (Some mark) = by (nat_eq mark.starter.0 starter)
-    where
-      by : (is : Bool) → cond is (txn_item width marks starter mark.defers sendings) []
-          ≡ or_nothing (object_by txn_members) written_txn IsTxn txn_is_item starter (cond is (Some (txn_of width marks starter mark.defers sendings)) None)
-      by true = txn_written starter mark.defers sendings
-      by false = refl
+  mark_written starter sendings mark = grind (arith, or_nothing, txn_is_item, txn_written)
 
   members_small : (starter : ℕ) (ended : Bool) → width ≤ 256 → All IsCount (members_of width marks starter ended)
   members_small starter ended wide = gathered_good IsCount _ width (λ done below. by done below (is_listed_in (marks (done + 1)) starter ended))
@@ -190,17 +176,14 @@ module _ (width : ℕ) (marks : ℕ → Option Mark) where
 
 -- the numbers of the kernel's processes
 between_above : (width n : ℕ) → is_between width n ≡ true → (1 ≤ n) × (n ≤ width)
-between_above width zero is = absurd (both_ways false refl is)
-between_above width (suc n) is = let below : n < width = ltb-true n width is in (omega arith, omega (arith, below))
+between_above width n is = grind (arith, both_ways, ltb-true)
 
 -- nothing is where nothing may be
 none_unless : {A : Type 0} (x : Option A) → ((found : A) → x ≡ Some found → ⊥) → x ≡ None
-none_unless None other = refl
-none_unless (Some found) other = absurd (other found refl)
+none_unless x other = grind arith
 
 pub is_some_of : {A : Type 0} (x : Option A) → is_some x ≡ true → (found : A) × (x ≡ Some found)
-is_some_of None is = absurd (both_ways false refl is)
-is_some_of (Some found) is = (found, refl)
+is_some_of x is = grind (arith, both_ways)
 
 is_there : {A : Type 0} → Option A → Type 0
 is_there None = ⊥
@@ -214,8 +197,7 @@ some_same : {A : Type 0} {x y : A} → Some x ≡ Some y → x ≡ y
 some_same {x = x} is = ap (λ found. unwrap_or found x) is
 
 runs_there : (q : Option Process) → is_running q ≡ true → (found : Process) × (q ≡ Some found)
-runs_there None is = absurd (both_ways false refl is)
-runs_there (Some found) is = (found, refl)
+runs_there q is = grind (arith, both_ways)
 
 plus_one : (n : ℕ) → n + 1 ≡ suc n
 plus_one n = add-one n
@@ -240,13 +222,8 @@ module _ (V : View) (kernel : IsOfKernel V) where
   parent_small : (n : ℕ) (q : Process) → S.procs n ≡ Some q → q.parent ≤ 256
   unfolding parent_in
   parent_small n q is = elim (eqb_tells n 1) [
-    | inl first ↦
-        let own : Some (kernel.formed.first.0) ≡ Some q = sym kernel.formed.first.1 ∙ ap S.procs (sym first.1) ∙ is in
-        let none : q.parent ≡ 0 = ap parent_in (sym own) ∙ kernel.formed.first.2.parent in omega (arith, none)
-    | inr other ↦
-        let there = runs_there (S.procs q.parent) ((kernel.formed.placed n q is).parent other.1) in
-        let inside = place_of q.parent there.0 there.1 in
-        let within : q.parent ≤ S.width = inside.1 in omega (arith, within, wide)
+    | inl first ↦ grind (arith, kernel.formed.first)
+    | inr other ↦ grind (arith, runs_there, place_of, (kernel.formed.placed n q is).parent other.1, wide)
   ]
 
   pub good_process : (n : ℕ) (q : Process) → S.procs n ≡ Some q → IsKernelProcess (n, q)
@@ -280,25 +257,10 @@ module _ (V : View) (kernel : IsOfKernel V) where
   -- what is told of a transaction is of one that is live
   told_of_live : (starter : ℕ) (mark : Option Mark) (told : TxnTold) → txn_told V.table.width V.table.marks starter (S.held starter) mark ≡ Some told
       → (is_of starter mark ≡ true) × ((defers : Bool) × (txn_of V.table.width V.table.marks starter defers (S.held starter) ≡ told))
-  told_of_live starter None told is = absurd (none_is_some is)
-  told_of_live starter (Some mark) told is = by (nat_eq mark.starter.0 starter) refl is
-    where
-      by : (b : Bool) → nat_eq mark.starter.0 starter ≡ b → cond b (Some (txn_of V.table.width V.table.marks starter mark.defers (S.held starter))) None ≡ Some told
-          → (nat_eq mark.starter.0 starter ≡ true) × ((defers : Bool) × (txn_of V.table.width V.table.marks starter defers (S.held starter) ≡ told))
-      by true same found = (same, (mark.defers, some_same found))
-      by false other found = absurd (none_is_some found)
+  told_of_live starter mark told is = grind (arith, none_is_some, some_same)
 
   pub good_txn : (starter : ℕ) (told : TxnTold) → told_at starter ≡ Some told → IsTxn (starter, told)
-  good_txn starter told is =
-      let live = told_of_live starter (V.table.marks starter) told is in
-      let inside = (between_above V.table.width starter (kernel.members starter starter live.0)).1 in
-      let same = kernel.width in
-      subst (λ (t : TxnTold). IsTxn (starter, t)) live.1.1 (record {
-        starter = omega (arith, inside, same, wide);
-        open_parts = members_small V.table.width V.table.marks starter false (omega (arith, same, wide));
-        ended_parts = members_small V.table.width V.table.marks starter true (omega (arith, same, wide));
-        held = good_send starter;
-      })
+  good_txn starter told is = grind (arith, between_above, good_send, members_small, told_of_live, wide)
 
   -- ---- the lists of a state
 

@@ -1,5 +1,5 @@
 -- The line of a step reads back to what it tells.
-use Rattle.std.proofs.Common.{◌≡◌, ◌∙◌, ◌<◌, ◌^◌, List, ap}
+use Rattle.std.proofs.Common.{◌∙◌, List, ap}
 use Rattle.json.proofs.Printed.Tokens.{tokens-print}
 use Rattle.json.specs.Token.{Token}
 use Rattle.tx_json.specs.Answers.{step_answer}

@@ -1,5 +1,5 @@
 -- The text of a state tells the state.
-use Rattle.std.proofs.Common.{◌≡◌, ℕ, zero, suc, ◌+◌, ◌<◌, ◌≤◌, ◌^◌, Bool, true, false, if◌then◌else◌, List, [], ◌++◌, codes, Option, Some, None, drop, get_or, map, refl, sym, ap, ◌∙◌, arith, eq-eqb, inl, inr, add-one, subst}
+use Rattle.std.proofs.Common.{◌≡◌, ℕ, zero, suc, ◌+◌, ◌<◌, ◌≤◌, ◌^◌, Bool, true, false, List, [], ◌++◌, codes, Option, Some, None, drop, map, refl, sym, ap, ◌∙◌, arith, eq-eqb, inl, inr, add-one}
 use Rattle.std.specs.Prelude.{All, is_some}
 use Rattle.std.proofs.lemmas.Bool.{both_ways, cases_lt}
 use Rattle.std.proofs.lemmas.Bool.Decides.{eqb_tells}
@@ -7,19 +7,20 @@ use Rattle.std.proofs.lemmas.List.{append-nil}
 use Rattle.tx_base.specs.declared.limits.TheConstants.{DESCRIPTIONS, PIPES, WIDE_PROCESSES}
 use Rattle.tx_base.specs.declared.marks.Mark.{Mark}
 use Rattle.tx_model.specs.Membership.{is_live, is_member_of, is_of}
-use Rattle.tx_model.specs.State.{Description, Process, Sending, State, is_between}
+use Rattle.tx_model.specs.State.{Description, Process, State, is_between}
 use Rattle.tx_model.specs.Answer.{is_running}
 use Rattle.tx_model.specs.View.{View, present}
 use Rattle.tx_laws.specs.WellFormed.{IsWellFormed}
 use Rattle.tx_text.specs.Descriptors.{descs_text, pipes_text}
 use Rattle.tx_text.specs.Processes.{procs_text}
 use Rattle.tx_text.specs.State.{state_text}
-use Rattle.tx_text.specs.Txns.{is_listed_in, same_answer, txns_text}
+use Rattle.tx_text.specs.Txns.{is_listed_in, txns_text}
 use Rattle.tx_faithful.specs.Told.{IsOfKernel, IsTyped, shown, standing, TextsTellStates, unsigned}
 use Rattle.tx_faithful.proofs.Descriptors.{descs_rank, descs_told, HoldsBytes, IsOfPipe, pipes_rank, pipes_told}
 use Rattle.tx_faithful.proofs.Processes.{IsTellableAt, procs_told}
 use Rattle.tx_faithful.proofs.Ranks.{rank}
-use Rattle.tx_faithful.proofs.Signals.{known_small}
+use Rattle.tx_faithful.proofs.Gathered.{each_there}
+use Rattle.tx_faithful.proofs.Lists.{known_small}
 use Rattle.tx_faithful.proofs.Txns.{IsTellableSending, TellSame, TellSameTransaction, txns_rank, txns_told}
 use borrow.Author.Tests.{ltb-true}
 
@@ -30,39 +31,20 @@ in_range limit (suc i) is = (i, ltb-true i limit is, add-one i)
 
 module _ (S : State) (formed : IsWellFormed S) (typed : IsTyped S) where
   runs_inside : (n : ℕ) → is_running (S.procs n) ≡ true → n ≤ S.width
-  runs_inside n runs = by (S.procs n) refl runs
-    where
-      by : (x : Option Process) → S.procs n ≡ x → is_running x ≡ true → n ≤ S.width
-      by None is runs = absurd (both_ways false refl runs)
-      by (Some q) is runs = let at = in_range S.width n (formed.placed n q is).number in omega (arith, at.1, at.2)
+  runs_inside n runs = each_there (λ x. is_running x ≡ true → n ≤ S.width) (S.procs n) (λ none. absurd (both_ways false refl none)) (λ q is some. (let at = in_range S.width n (formed.placed n q is).number in omega (arith, at.1, at.2))) runs
 
   parent_small : (n : ℕ) (q : Process) → S.procs n ≡ Some q → q.parent < 2 ^ 64
   parent_small n q is = elim (eqb_tells n 1) [
-    | inl h ↦
-        let first = formed.first in
-        let same : Some q ≡ Some first.0 = sym is ∙ ap S.procs h.1 ∙ first.1 in
-        let at : q ≡ first.0 = cc in
-        let none : q.parent ≡ 0 = ap (λ (q : Process). q.parent) at ∙ first.2.parent in
-        omega arith
-    | inr h ↦
-        let inside : q.parent ≤ S.width = runs_inside q.parent ((formed.placed n q is).parent h.1) in
-        let few : S.width ≤ WIDE_PROCESSES = typed.width in
-        omega arith
+    | inl h ↦ grind (arith, formed.first)
+    | inr h ↦ (let inside = runs_inside q.parent ((formed.placed n q is).parent h.1) in let few : S.width ≤ WIDE_PROCESSES = typed.width in omega arith)
   ]
 
   proc_tellable : (n : ℕ) → IsTellableAt (S.procs n)
-  proc_tellable n = by (S.procs n) refl
-    where
-      by : (x : Option Process) → S.procs n ≡ x → IsTellableAt x
-      by None is = tt
-      by (Some q) is = record { parent = parent_small n q is; sizes = (formed.placed n q is).sizes; limits = formed.limits n q is; types = typed.procs n q is }
+  proc_tellable n =
+      each_there IsTellableAt (S.procs n) tt (λ q is. record { parent = parent_small n q is; sizes = (formed.placed n q is).sizes; limits = formed.limits n q is; types = typed.procs n q is })
 
   no_proc : (n : ℕ) → (is_between S.width n ≡ true → ⊥) → S.procs n ≡ None
-  no_proc n outside = by (S.procs n) refl
-    where
-      by : (x : Option Process) → S.procs n ≡ x → x ≡ None
-      by None is = refl
-      by (Some q) is = absurd (outside (formed.placed n q is).number)
+  no_proc n outside = each_there (λ x. x ≡ None) (S.procs n) refl (λ q is. absurd (outside (formed.placed n q is).number))
 
   desc_of_pipe : (d : ℕ) → IsOfPipe (S.descs d)
   desc_of_pipe d = by (S.descs d) refl
@@ -76,60 +58,23 @@ module _ (S : State) (formed : IsWellFormed S) (typed : IsTyped S) where
       by (Some x) is = let inside : x.pipe < PIPES = there x.pipe (S.pipes x.pipe) refl (formed.named d x is).2 in omega arith
 
   no_desc : (d : ℕ) → DESCRIPTIONS ≤ d → S.descs d ≡ None
-  no_desc d outside = by (S.descs d) refl
-    where
-      by : (x : Option Description) → S.descs d ≡ x → x ≡ None
-      by None is = refl
-      by (Some x) is = absurd (omega (arith, (formed.named d x is).1))
+  no_desc d outside = each_there (λ x. x ≡ None) (S.descs d) refl (λ x is. absurd (omega (arith, outside, (formed.named d x is).1)))
 
   pipe_bytes : (k : ℕ) → HoldsBytes (S.pipes k)
-  pipe_bytes k = by (S.pipes k) refl
-    where
-      by : (x : Option (List ℕ)) → S.pipes k ≡ x → HoldsBytes x
-      by None is = tt
-      by (Some bytes) is = typed.pipes k bytes is
+  pipe_bytes k = grind arith
 
   no_pipe : (k : ℕ) → PIPES ≤ k → S.pipes k ≡ None
-  no_pipe k outside = by (S.pipes k) refl
-    where
-      by : (x : Option (List ℕ)) → S.pipes k ≡ x → x ≡ None
-      by None is = refl
-      by (Some bytes) is = absurd (omega (arith, (formed.pipes k bytes is).1))
+  no_pipe k outside = each_there (λ x. x ≡ None) (S.pipes k) refl (λ bytes is. absurd (omega (arith, outside, (formed.pipes k bytes is).1)))
 
   sends_tellable : (s : ℕ) → All IsTellableSending (S.held s)
-  sends_tellable s i d below =
-      let is = formed.held s i d below in
-      let m : Sending = get_or (S.held s) i d in
-      let at = in_range S.width m.target is.target in
-      record {
-        target = omega (arith, typed.width, at.1, at.2);
-        signo = omega (arith, known_small m.signo is.known);
-        value = typed.held s i d below;
-      }
+  sends_tellable s = grind (arith, in_range, known_small)
 
 -- whom a list names, by which transaction and list it is
 listed_means : (x : Option Mark) (s : ℕ) (ended : Bool) → is_listed_in x s ended ≡ true → standing x ≡ Some (record { starter = record { 0 = s }; ended = ended; defers = false })
-listed_means None s ended is = absurd (both_ways false refl is)
-listed_means (Some mark) s ended is = elim (eqb_tells mark.starter.0 s) [
-  | inl h ↦
-      let answer : same_answer mark.ended ended ≡ true = ap (λ (b : Bool). if b then same_answer mark.ended ended else false) (sym h.0) ∙ is in
-      let same : mark.ended ≡ ended = same_means mark.ended ended answer in
-      λ j. Some (record { starter = record { 0 = h.1 j }; ended = same j; defers = false })
-  | inr h ↦ absurd (both_ways false refl (ap (λ (b : Bool). if b then same_answer mark.ended ended else false) (sym h.0) ∙ is))
-]
-  where
-    same_means : (a b : Bool) → same_answer a b ≡ true → a ≡ b
-    same_means true true is = refl
-    same_means true false is = absurd (both_ways false refl is)
-    same_means false true is = absurd (both_ways false refl is)
-    same_means false false is = refl
+listed_means x s ended is = grind (arith, both_ways, eqb_tells)
 
 is_listed : (mark : Mark) → is_listed_in (Some mark) mark.starter.0 mark.ended ≡ true
-is_listed mark = ap (λ (b : Bool). if b then same_answer mark.ended mark.ended else false) (eq-eqb mark.starter.0 mark.starter.0 refl) ∙ same mark.ended
-  where
-    same : (b : Bool) → same_answer b b ≡ true
-    same true = refl
-    same false = refl
+is_listed mark = grind (arith, eq-eqb)
 
 -- a mark stands where a text with the same lists has it
 module _ (V W : View) (is : IsOfKernel V)
@@ -154,44 +99,24 @@ text_at width V =
 
 whole : (V : View) → IsOfKernel V → state_text V ≡ codes "state\n" ++ text_at (present V).width V
 unfolding text_at
-whole V is =
-    let last : txns_text V.table.width V.table.marks (present V).held ≡ txns_text (present V).width V.table.marks (present V).held ++ [] =
-    ap (λ (width : ℕ). txns_text width V.table.marks (present V).held) (sym is.width) ∙ sym (append-nil (txns_text (present V).width V.table.marks (present V).held)) in
-    λ j. codes "state\n" ++ (procs_text (present V).width (present V).procs ++ (descs_text (present V).descs ++ (pipes_text (present V).pipes ++ last j)))
+whole V is = grind (arith, append-nil)
 
 module _ (V W : View) (v : IsOfKernel V) (w : IsOfKernel W) (width : (present V).width ≡ (present W).width) where
   same_proc : ((i : ℕ) → i < (present V).width → shown ((present V).procs (i + 1)) ≡ shown ((present W).procs (i + 1))) → (n : ℕ) → shown ((present V).procs n) ≡ shown ((present W).procs n)
-  same_proc same n = by (is_between (present V).width n) refl
-    where
-      by : (b : Bool) → is_between (present V).width n ≡ b → shown ((present V).procs n) ≡ shown ((present W).procs n)
-      by true is = let at = in_range (present V).width n is in subst (λ (m : ℕ). shown ((present V).procs m) ≡ shown ((present W).procs m)) at.2 (same at.0 at.1)
-      by false is = ap shown (no_proc (present V) v.formed v.typed n (both_ways (is_between (present V).width n) is)
-          ∙ sym (no_proc (present W) w.formed w.typed n (both_ways (is_between (present W).width n) (ap (λ (m : ℕ). is_between m n) (sym width) ∙ is))))
+  same_proc same n = grind (arith, both_ways, in_range, no_proc)
 
   module _ (told : (i : ℕ) → i < (present V).width → TellSame (present V).width V.table.marks W.table.marks ((present V).held (i + 1)) ((present W).held (i + 1)) (i + 1)) where
     same_live : (s : ℕ) → is_live V.table s ≡ true → TellSame (present V).width V.table.marks W.table.marks ((present V).held s) ((present W).held s) s
-    same_live s live =
-        let at = in_range V.table.width s (v.members s s live) in
-        subst (λ (n : ℕ). TellSame (present V).width V.table.marks W.table.marks ((present V).held n) ((present W).held n) n) at.2 (told at.0 (omega (arith, at.1, v.width)))
+    same_live s live = grind (arith, in_range)
 
     live_back : (s : ℕ) → is_live W.table s ≡ true → is_live V.table s ≡ true
-    live_back s live =
-        let at = in_range W.table.width s (w.members s s live) in
-        let same = (told at.0 (omega (arith, at.1, w.width, width))).live in
-        ap (is_live V.table) (sym at.2) ∙ same ∙ ap (is_live W.table) at.2 ∙ live
+    live_back s live = grind (arith, in_range)
 
     same_transaction : (s : ℕ) → is_live V.table s ≡ true → TellSameTransaction (present V).width V.table.marks W.table.marks ((present V).held s) ((present W).held s) s
     same_transaction s live = (same_live s live).told live
 
     same_standing : (p : ℕ) → standing (V.table.marks p) ≡ standing (W.table.marks p)
-    same_standing p = by (V.table.marks p) (W.table.marks p) refl refl
-      where
-        by : (x y : Option Mark) → V.table.marks p ≡ x → W.table.marks p ≡ y → standing (V.table.marks p) ≡ standing (W.table.marks p)
-        by None None is is' = ap standing is ∙ sym (ap standing is')
-        by (Some mark) y is is' =
-            stands V W v (λ i inside live ended k below. (same_transaction (i + 1) live).listed ended k (omega (arith, below, v.width))) p mark is
-        by None (Some mark) is is' =
-            sym (stands W V w (λ i inside live ended k below. sym ((same_transaction (i + 1) (live_back (i + 1) live)).listed ended k (omega (arith, below, w.width, width)))) p mark is')
+    same_standing p = grind (arith, live_back, same_transaction, stands)
 
     same_sends : (s : ℕ) → map unsigned ((present V).held s) ≡ map unsigned ((present W).held s)
     same_sends s = by (is_live V.table s) (is_live W.table s) refl refl

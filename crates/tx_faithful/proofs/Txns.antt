@@ -1,9 +1,10 @@
 -- The live transactions in a text.
-use Rattle.std.proofs.Common.{◌≡◌, ℕ, zero, suc, ◌+◌, ◌<◌, ◌≤◌, ◌^◌, Bool, true, false, ◌==◌, cond, if◌then◌else◌, List, [], ◌∷◌, ◌++◌, codes, Option, Some, None, drop, map, refl, sym, ap, ◌∙◌, arith, append_assoc, eq-eqb, inl, inr, add-one}
+use Rattle.std.proofs.Common.{◌≡◌, ℕ, zero, suc, ◌+◌, ◌<◌, ◌≤◌, ◌^◌, Bool, true, false, cond, if◌then◌else◌, List, [], ◌∷◌, ◌++◌, codes, Option, Some, None, drop, map, refl, sym, ap, ◌∙◌, arith, append_assoc, add-one}
+use Rattle.std.proofs.lemmas.Bool.Decides.{nat_tests}
 use Rattle.std.specs.Prelude.{All}
 use Rattle.std.specs.List.{filter}
 use Rattle.std.specs.Fmt.{decimal, signed_decimal}
-use Rattle.std.proofs.lemmas.Bool.{cases_lt, both_ways, or_left, or_right}
+use Rattle.std.proofs.lemmas.Bool.{both_ways}
 use Rattle.std.proofs.lemmas.List.Elements.{filter-append}
 use Rattle.tx_base.specs.declared.marks.Mark.{Mark}
 use Rattle.tx_model.specs.Membership.{defers_in, is_of}
@@ -12,7 +13,7 @@ use Rattle.tx_model.specs.State.{Sending}
 use Rattle.tx_lines.specs.ListLaws.{joined, list_end, one_looked, some_in}
 use Rattle.tx_lines.specs.Lists.{list_text, member_text, some_after}
 use Rattle.tx_text.specs.Each.{upto}
-use Rattle.tx_text.specs.Txns.{flag_of, held_text, helds_text, is_listed_in, listed_text, mark_text, members_text, some_of, txn_lines, txn_text, txns_text}
+use Rattle.tx_text.specs.Txns.{flag_of, held_text, helds_text, is_listed_in, listed_text, mark_text, members_text, some_of, txn_lines, txns_text}
 use Rattle.tx_faithful.specs.Told.{HasSentWord, unsigned}
 use Rattle.tx_faithful.proofs.Fronts.{number_told, other_byte, regroup, signed_told, Stops}
 use Rattle.tx_faithful.proofs.Items.{AreItems, items_told}
@@ -55,22 +56,12 @@ numbers_small (suc n) inside = small_append (numbers n) ((n + 1) ∷ []) (number
 
 small_filter : (test : ℕ → Bool) (xs : List ℕ) → AreSmall xs → AreSmall (filter test xs)
 small_filter test [] small = tt
-small_filter test (x ∷ xs) small = by (test x) (small_filter test xs small.1)
-  where
-    by : (b : Bool) → AreSmall (filter test xs) → AreSmall (cond b (x ∷ filter test xs) (filter test xs))
-    by true rest = (small.0, rest)
-    by false rest = rest
+small_filter test (x ∷ xs) small = grind (arith, small_filter test xs)
 
 among_numbers : (n i : ℕ) → i < n → is_one_of (numbers n) (suc i) ≡ true
 unfolding numbers
 among_numbers zero i below = absurd (omega arith)
-among_numbers (suc n) i below =
-    one_of_both (numbers n) ((n + 1) ∷ []) (suc i) ∙ elim (cases_lt i n) [
-      | inl lower ↦ or_left (is_one_of (numbers n) (suc i)) (is_one_of ((n + 1) ∷ []) (suc i)) (among_numbers n i lower)
-      | inr upper ↦
-          let here : n + 1 ≡ suc i = omega arith in
-          or_right (is_one_of (numbers n) (suc i)) (is_one_of ((n + 1) ∷ []) (suc i)) (or_left (n + 1 == suc i) false (eq-eqb (n + 1) (suc i) here))
-    ]
+among_numbers (suc n) i below = grind (arith, nat_tests, one_of_both, among_numbers n i)
 
 -- the members of a list tell of each number whether it stands there
 members_told : (width : ℕ) (marks others : ℕ → Option Mark) (starter : ℕ) (ended : Bool) (R S : List ℕ) → width < 2 ^ 16 → Stops in_list R → Stops in_list S →
@@ -117,8 +108,7 @@ flag_rest false = codes "open "
 
 flag_is : (flag : Bool) → flag_of flag ≡ 32 ∷ flag_rest flag
 unfolding flag_rest
-flag_is true = refl
-flag_is false = refl
+flag_is flag = grind arith
 
 flag_told : (a b : Bool) (r s : List ℕ) → flag_rest a ++ r ≡ flag_rest b ++ s → (a ≡ b) × (r ≡ s)
 unfolding flag_rest
@@ -137,14 +127,7 @@ module _ (width : ℕ) (marks : ℕ → Option Mark) (starter : ℕ) where
 
   line_numbered : (held : List Sending) (mark : Option Mark) → mark_text width marks starter held mark ≡ numbered (codes "txn ") 32 starter (line_rest (is_of starter mark) (defers_in mark) held)
   unfolding line_rest
-  line_numbered held None = refl
-  line_numbered held (Some mark) = by (mark.starter.0 == starter)
-    where
-      by : (b : Bool) → (if b then txn_text width marks starter mark.defers ++ helds_text held else []) ≡ numbered (codes "txn ") 32 starter (line_rest b mark.defers held)
-      by true =
-          ap (λ (t : List ℕ). codes "txn " ++ t) (append_assoc (decimal starter) (flag_of mark.defers ++ lists) (helds_text held))
-          ∙ ap (λ (t : List ℕ). codes "txn " ++ (decimal starter ++ ((t ++ lists) ++ helds_text held))) (flag_is mark.defers)
-      by false = refl
+  line_numbered held mark = grind (arith, append_assoc, flag_is, line_rest, numbered)
 
 -- the lines of the transaction of one starter tell the same of two tables
 pub record TellSameTransaction (width : ℕ) (marks others : ℕ → Option Mark) (held holds : List Sending) (starter : ℕ) : Type 0 where
