@@ -16,80 +16,22 @@ use Rattle.tx_explain.specs.Topics.{asked, is_page_of, opens}
 pub every_refusal : (why : Refusal) → asked (refusal_word why) ≡ Some (refusal_word why)
 unfolding digits all_rows
 every_refusal NoProcess = refl
-every_refusal NotRunning = refl
-every_refusal BadNumber = refl
-every_refusal NumberTaken = refl
-every_refusal Doomed = refl
-every_refusal Parked = refl
-every_refusal KillPending = refl
-every_refusal (Busy starter) = refl
-every_refusal Wait = refl
-every_refusal NotDeliverable = refl
-every_refusal FramesFull = refl
-every_refusal NoTransaction = refl
-every_refusal NoMemory = refl
-every_refusal Deferred = refl
+every_refusal _ = refl
 
 pub every_call : (call : Call) → asked (call_word call) ≡ Some (call_word call)
 unfolding digits all_rows
 every_call (call.Map page) = refl
-every_call (call.Unmap page) = refl
-every_call (call.Protect page writable) = refl
-every_call (call.Store address bytes) = refl
-every_call (call.Load address) = refl
-every_call (call.Fork child) = refl
-every_call (call.Exit status) = refl
-every_call (call.Waitpid target nohang) = refl
-every_call call.Getpid = refl
-every_call call.Getppid = refl
-every_call (call.Setuid id) = refl
-every_call (call.Seteuid id) = refl
-every_call (call.Setgid id) = refl
-every_call (call.Setegid id) = refl
-every_call (call.Pipe pipe read write) = refl
-every_call (call.Dup fd) = refl
-every_call (call.Dup2 from to) = refl
-every_call (call.Close fd) = refl
-every_call (call.SetNonblock fd on) = refl
-every_call (call.Read fd address count) = refl
-every_call (call.Write fd address count) = refl
-every_call (call.Kill target signo) = refl
-every_call (call.Sigqueue target signo value) = refl
-every_call (call.Sigaction signo action) = refl
-every_call (call.Sigprocmask how set) = refl
-every_call call.Sigpending = refl
-every_call call.Sigreturn = refl
-every_call (call.ConsoleWrite address count) = refl
-every_call (call.Jump point if_so) = refl
-every_call (call.Keep slot) = refl
-every_call call.SysXbegin = refl
-every_call call.SysXbeginDefer = refl
-every_call call.SysXend = refl
-every_call call.SysXabort = refl
+every_call _ = refl
 
 pub every_error : (error : Errno) → asked (45 ∷ decimal (error_number error)) ≡ Some (error_name error)
 unfolding digits all_rows
 every_error NotPermitted = refl
-every_error NoSuchProcess = refl
-every_error BadDescriptor = refl
-every_error NoChild = refl
-every_error TryAgain = refl
-every_error BadAddress = refl
-every_error InvalidArgument = refl
-every_error TooManyDescriptors = refl
-every_error BrokenPipe = refl
+every_error _ = refl
 
 pub every_number : (error : Errno) → is_some (asked (decimal (error_number error))) ≡ true
 unfolding digits all_rows
 every_number NotPermitted = refl
-every_number NoSuchProcess = refl
-every_number BadDescriptor = refl
-every_number NoChild = refl
-every_number TryAgain = refl
-every_number BadAddress = refl
-every_number InvalidArgument = refl
-every_number TooManyDescriptors = refl
-every_number BrokenPipe = refl
+every_number _ = refl
 
 -- what answers exactly where something is asked for answers to a word that is known
 pub answers : {A : Type 0} (word known : Text) (told : Option A) → is_some told ≡ is_some (asked word) → word ≡ known → is_some (asked known) ≡ true → is_some told ≡ true

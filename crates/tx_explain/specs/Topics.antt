@@ -87,9 +87,13 @@ is_formed topic = opens topic.word.now topic.text.now && is_page topic.text.now
 abbrev pub is_formed_group : Group → Bool
 is_formed_group group = list_all is_formed group.topics.now
 
+-- the words of topics, each after a space
+abbrev pub words_listed : List Row → Text
+words_listed rows = flat_map (λ (row : Row). 32 ∷ name_in row) rows
+
 -- a group's title, and a line with the words of its topics
 abbrev pub group_lines : Text × List Row → Text
-group_lines group = group.0 ++ 10 ∷ 32 ∷ (flat_map (λ (row : Row). 32 ∷ name_in row) group.1 ++ 10 ∷ [])
+group_lines group = group.0 ++ 10 ∷ 32 ∷ (words_listed group.1 ++ 10 ∷ [])
 
 -- the lines of all groups
 abbrev pub listed : List (Text × List Row) → Text

@@ -1,62 +1,53 @@
 //! The list of all words.
-ghost use Rattle.std.specs.Prelude.{◌≡◌, IsTrue};
+ghost use Rattle.std.specs.Prelude.{◌≡◌, ◌++◌, IfOk, IsTrue, OnOk, map, string_bytes};
 ghost use Rattle.tx_explain.specs.Table.{all_rows};
-ghost use Rattle.tx_explain.specs.Topics.{is_page, listed};
+ghost use Rattle.tx_explain.specs.Topics.{group_lines, is_page, listed, row_of, rows_of_group, words_listed};
+
+use crate::topic::{Group, Topic};
+use crate::topics::groups;
+use std::alloc::{AllocError, Global};
+use std::fmt::Write;
 
 /// The words that [`explain`](crate::explain) knows, in groups: for each group its title, and a line
-/// with its words. A word that is found by another one too, as `EINVAL` by `-22`, stands once.
-pub fn listing() -> &'static str
-    ensures words { result.now ≡ listed all_rows }
-    ensures lines { IsTrue (is_page result.now) }
+/// with its words. A word that is found by another one too, as `EINVAL` by `-22`, stands once. The only
+/// error is that a growth of memory was refused.
+pub fn listing(alloc: Global) -> Result<String, AllocError>
+    ensures words { IfOk result (λ text. string_bytes text ≡ listed all_rows) }
+    ensures lines { IfOk result (λ text. IsTrue (is_page (string_bytes text))) }
 {
-    LISTING
+    let mut text = String::new(alloc);
+    put_groups(&mut text, groups().as_slice())?;
+    Ok(text)
 }
 
-const LISTING: &str = "\
-commands of txos
-  replay debug json picture shell run check plain explain version
-refusals of a step, as in: no N9
-  N1 N2 N3 N4 N5 N6 N7 N8 N9 N10 N11 N12 N13 N14
-faults, as in: txos: F1 line 2
-  F1 F2 F3 F4 F5 F6 F7 F8
-signals, by number too, as in: pending 10,17
-  SIGHUP SIGINT SIGQUIT SIGABRT SIGKILL SIGUSR1 SIGUSR2 SIGALRM SIGTERM
-signals that the kernel sends, and those that queue
-  SIGPIPE SIGCHLD realtime
-errors of a call, by number too, as in: ok -22
-  EPERM ESRCH EBADF ECHILD EAGAIN EFAULT EINVAL EMFILE EPIPE 200
-statuses of an abort, as in: aborted 201
-  201 202 203
-replies to a step
-  ok ended committed aborted out no
-calls on memory
-  map unmap protect store load
-calls on processes
-  fork exit waitpid getpid getppid
-calls on ids
-  setuid seteuid setgid setegid
-calls on descriptors and pipes
-  pipe dup dup2 close set_nonblock read write
-calls on signals
-  kill sigqueue sigaction sigprocmask sigpending sigreturn
-calls of scripts, and on the console
-  console_write jump keep
-calls of transactions
-  sys_xbegin sys_xend sys_xabort
-other steps
-  deliver kernel
-commands of the debugger, behind the line debug, and of the shell
-  back forward goto state moved at
-commands of the shell alone
-  try why without owns when next steps text cut help quit
-a process in a state
-  proc parent killed point ret ids slots page fd
-signals of a process in a state
-  mask action pending queued frame
-descriptions and transactions in a state
-  desc block nonblock txn open defer held
-words of texts
-  txos comment schedule program label number hex set signal
-what the texts are about
-  transaction member starter reserved privileged worker turn zombie eof
-";
+/// Appends the title and the words of each group.
+fn put_groups(text: &mut String, groups: &[Group]) -> Result<(), AllocError>
+    ensures { OnOk result (string_bytes text.new
+        ≡ string_bytes text.old ++ listed (map rows_of_group groups.now)) }
+{
+    for group in groups {
+        put_group(text, group)?;
+    }
+    Ok(())
+}
+
+/// Appends the title of a group, and a line with its words.
+fn put_group(text: &mut String, group: &Group) -> Result<(), AllocError>
+    ensures { OnOk result (string_bytes text.new
+        ≡ string_bytes text.old ++ group_lines (rows_of_group group.now)) }
+{
+    write!(text, "{}\n ", group.title)?;
+    put_words(text, group.topics)?;
+    text.push('\n')
+}
+
+/// Appends the word of each topic, after a space.
+fn put_words(text: &mut String, topics: &[Topic]) -> Result<(), AllocError>
+    ensures { OnOk result (string_bytes text.new
+        ≡ string_bytes text.old ++ words_listed (map row_of topics.now)) }
+{
+    for topic in topics {
+        write!(text, " {}", topic.word)?;
+    }
+    Ok(())
+}
