@@ -19,21 +19,9 @@ use Rattle.clap.specs.declared.builder.command.Command.{Command}
 use Rattle.clap.specs.declared.parser.matches.ArgMatches.{ArgMatches}
 use Rattle.clap.specs.declared.parser.matches.ArgMatches.TheViews.{out-ArgMatches, out-SubCommand}
 use Rattle.clap.specs.declared.parser.matches.SubCommand.{SubCommand}
-use Rattle.txos.specs.CommandLine.{command_line, commands, named}
+use Rattle.txos.specs.CommandLine.{command_line, command_names, commands, named, IsOneOf, SomeOneOf}
 
 -- ---- names
-
-abbrev pub IsOneOf : List Text → Text → Type 0
-IsOneOf [] name = ⊥
-IsOneOf (first ∷ rest) name = (name ≡ first) ⊎ IsOneOf rest name
-
-abbrev pub SomeOneOf : List Text → Option Text → Type 0
-SomeOneOf names None = ⊥
-SomeOneOf names (Some name) = IsOneOf names name
-
--- the names of the program's commands
-abbrev pub command_names : List Text
-command_names = map (λ (s : Shape). s.name) commands
 
 before_last : (names : List Text) (last name : Text) → IsOneOf (names ++ last ∷ []) name → IsOneOf names name ⊎ (name ≡ last)
 before_last [] last name (inl is) = inr is

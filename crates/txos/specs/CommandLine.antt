@@ -1,7 +1,7 @@
 -- The words of the program's command line.
 use Rattle.std.specs.Char.{is_ascii_digit}
 use Rattle.std.specs.Str.{bytes_eq}
-use Rattle.std.specs.Prelude.{◌≡◌, ◌≢◌, ◌==◌, ◌&&◌, ◌++◌, if◌then◌else◌, Bool, false, None, ℕ, List, [], ◌∷◌, Option, Some, codes, fold, is_some, not, option_and_then, option_map, pos, true}
+use Rattle.std.specs.Prelude.{◌≡◌, ◌≢◌, ◌==◌, ◌&&◌, ◌++◌, ◌⊎◌, ⊥, if◌then◌else◌, Bool, false, None, ℕ, List, [], ◌∷◌, Option, Some, codes, fold, is_some, map, not, option_and_then, option_map, pos, true}
 use Rattle.clap.specs.Simple.{Shape, new_rule, new_shape, on_top}
 use Rattle.clap.specs.Walk.{Rule}
 use Rattle.clap.specs.Words.{App, Row, Text, new_app, one_of, subcommand_of, with_subcommand}
@@ -69,6 +69,19 @@ text_commands = check_line ∷ text_line (codes "plain") ∷ explain_line ∷ te
 
 abbrev pub commands : List Shape
 commands = schedule_commands ++ run_commands ++ text_commands
+
+-- the names of the program's commands
+abbrev pub command_names : List Text
+command_names = map (λ (s : Shape). s.name) commands
+
+-- a name is one of some
+abbrev pub IsOneOf : List Text → Text → Type 0
+IsOneOf [] name = ⊥
+IsOneOf (first ∷ rest) name = (name ≡ first) ⊎ IsOneOf rest name
+
+abbrev pub SomeOneOf : List Text → Option Text → Type 0
+SomeOneOf names None = ⊥
+SomeOneOf names (Some name) = IsOneOf names name
 
 -- the program's name, and that a command is wanted; clap adds its own `--version`
 abbrev pub top_line : App

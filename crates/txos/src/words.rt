@@ -1,12 +1,12 @@
 //! The words that the program is given.
-ghost use Rattle.std.specs.Prelude.{◌≡◌, IfOk, IfSome, Some, codes, false, fold, map, option_map, string_bytes};
+ghost use Rattle.std.specs.Prelude.{◌≡◌, IfOk, IfSome, Some, codes, false, fold, is_some, map, option_map, string_bytes};
 ghost use Rattle.clap.specs.Words.{FailsBy, app_of, fault_of, subcommand_name_of, subcommand_of, with_subcommand};
 ghost use Rattle.clap.specs.Simple.{subcommand_rows_of};
 ghost use Rattle.clap.specs.Walk.{rule_of};
 ghost use Rattle.clap.specs.declared.builder.command.Command.TheViews.{out-Command};
 ghost use Rattle.txos.specs.CommandLine.{asked_number, begins_negative, check_line, command_line, explain_line, is_any, json_line};
 ghost use Rattle.txos.specs.CommandLine.{IsAskedIn, IsFormOf, name_of, named, number_behind, number_option, reader_named, run_line};
-ghost use Rattle.txos.specs.CommandLine.{run_commands, schedule_commands, shell_line, text_commands, text_in, text_line, top_line};
+ghost use Rattle.txos.specs.CommandLine.{command_names, run_commands, schedule_commands, shell_line, text_commands, text_in, text_line, top_line, SomeOneOf};
 
 use clap::error::Error;
 use clap::{Arg, ArgAction, ArgMatches, Command, value_parser};
@@ -76,20 +76,42 @@ pub fn read_words<'a>(alloc: Global, words: &'a [String]) -> Result<Asked<'a>, E
     ensures form { IfOk result
         (IsAskedIn (subcommand_of command_line (map string_bytes words.now))) }
 {
+    let matches = matches_of(alloc, words)?;
+    Ok(asked_of(&matches)?)
+}
+
+/// What clap finds in the words. Words that name no command, or ask for help, are an `Err` of clap's.
+fn matches_of<'a>(alloc: Global, words: &'a [String]) -> Result<ArgMatches<'a>, Error>
+    ensures reads { FailsBy (fault_of command_line (map string_bytes words.now)) result }
+    ensures name { IfOk result (λ matches.
+        named (map string_bytes words.now) ≡ subcommand_name_of matches) }
+    ensures known { IfOk result (λ matches.
+        SomeOneOf command_names (subcommand_name_of matches)) }
+    ensures rows { IfOk result (λ matches.
+        subcommand_of command_line (map string_bytes words.now) ≡ subcommand_rows_of matches) }
+{
     let command = new_command(alloc)?;
     let matches = command.try_get_matches_from(words)?;
+    Ok(matches)
+}
+
+/// What matches of the program's command line ask for.
+fn asked_of<'a>(matches: &ArgMatches<'a>) -> Result<Asked<'a>, AllocError>
+    requires { SomeOneOf command_names (subcommand_name_of matches.now) }
+    ensures asked { IfOk result (λ asked. subcommand_name_of matches.now ≡ Some (name_of asked)) }
+    ensures form { IfOk result (IsAskedIn (subcommand_rows_of matches.now)) }
+{
     match matches.subcommand_name() {
         Some("replay") => Ok(Asked::Replay),
         Some("debug") => Ok(Asked::Debug),
-        Some("json") => Ok(json_of(&matches)?),
+        Some("json") => json_of(matches),
         Some("picture") => Ok(Asked::Picture),
-        Some("shell") => Ok(Asked::Shell(form_of(&matches))),
-        Some("run") => Ok(Asked::Run(crew_of(&matches, "run")?)),
-        Some("check") => Ok(check_of(&matches)),
+        Some("shell") => Ok(Asked::Shell(form_of(matches))),
+        Some("run") => Ok(Asked::Run(crew_of(matches, "run")?)),
+        Some("check") => Ok(check_of(matches)),
         Some("plain") => Ok(Asked::Plain),
-        Some("explain") => Ok(Asked::Explain(word_of(&matches))),
+        Some("explain") => Ok(Asked::Explain(word_of(matches))),
         Some("version") => Ok(Asked::Version),
-        // Words that name no command, or ask for help, are an `Err` of clap's.
         _ => unreachable!(),
     }
 }
@@ -146,11 +168,8 @@ fn json_of<'a>(matches: &ArgMatches<'_>) -> Result<Asked<'a>, AllocError>
     ensures name { IfOk result (λ asked. name_of asked ≡ codes "json") }
     ensures asked { IfOk result (IsAskedIn (subcommand_rows_of matches.now)) }
 {
-    let Some(json) = matches.subcommand_matches("json") else {
-        unreachable!()
-    };
-    let workers = json.get_str("workers").is_some();
-    let turns = json.get_str("turns").is_some();
+    let workers = is_given(matches, "json", "workers");
+    let turns = is_given(matches, "json", "turns");
     if workers != turns {
         return Ok(Asked::HalfRun);
     }
@@ -159,6 +178,17 @@ fn json_of<'a>(matches: &ArgMatches<'_>) -> Result<Asked<'a>, AllocError>
     } else {
         Ok(Asked::Json)
     }
+}
+
+/// Whether the words of a command give an option a text.
+fn is_given(matches: &ArgMatches<'_>, command: &str, option: &str) -> bool
+    requires { subcommand_name_of matches.now ≡ Some command.now }
+    ensures { result ≡ is_some (text_in option.now (subcommand_rows_of matches.now)) }
+{
+    let Some(given) = matches.subcommand_matches(command) else {
+        unreachable!()
+    };
+    given.get_str(option).is_some()
 }
 
 /// What the words of `check` ask for.
