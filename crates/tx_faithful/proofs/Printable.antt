@@ -50,20 +50,8 @@ missed_printable missed typed =
 
 refusal_printable : (refusal : Refusal) → IsTypedRefusal refusal → ArePrintable (refusal_members refusal ++ end_object)
 unfolding ArePrintable count_member end_object word_member
-refusal_printable NoProcess typed = (tt, (tt, (tt, tt)))
-refusal_printable NotRunning typed = (tt, (tt, (tt, tt)))
-refusal_printable BadNumber typed = (tt, (tt, (tt, tt)))
-refusal_printable NumberTaken typed = (tt, (tt, (tt, tt)))
-refusal_printable Doomed typed = (tt, (tt, (tt, tt)))
-refusal_printable Parked typed = (tt, (tt, (tt, tt)))
-refusal_printable KillPending typed = (tt, (tt, (tt, tt)))
 refusal_printable (Busy starter) typed = (tt, (tt, (tt, (IsNumber-decimal starter.0 (omega (arith, typed)), (tt, tt)))))
-refusal_printable Wait typed = (tt, (tt, (tt, tt)))
-refusal_printable NotDeliverable typed = (tt, (tt, (tt, tt)))
-refusal_printable FramesFull typed = (tt, (tt, (tt, tt)))
-refusal_printable NoTransaction typed = (tt, (tt, (tt, tt)))
-refusal_printable NoMemory typed = (tt, (tt, (tt, tt)))
-refusal_printable Deferred typed = (tt, (tt, (tt, tt)))
+refusal_printable _ typed = (tt, (tt, (tt, tt)))
 
 undelivered_printable : (items : List Missed) → All IsTypedMissed items → ArePrintable (list_member (codes "undelivered") (each_tokens missed_tokens items) ++ end_object)
 unfolding ArePrintable end_object

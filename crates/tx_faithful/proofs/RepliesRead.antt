@@ -26,14 +26,7 @@ small_error errno = grind arith
 
 error_read : (errno : Errno) → numbered_by errors (error_number errno) ≡ Some errno
 error_read NotPermitted = refl
-error_read NoSuchProcess = refl
-error_read BadDescriptor = refl
-error_read NoChild = refl
-error_read TryAgain = refl
-error_read BadAddress = refl
-error_read InvalidArgument = refl
-error_read TooManyDescriptors = refl
-error_read BrokenPipe = refl
+error_read _ = refl
 
 missed_read : (missed : Missed) (rest : List Token) → IsTypedMissed missed → missed_at (missed_tokens missed ++ rest) ≡ Some (missed, rest)
 unfolding begin_object count_at count_in count_member end_object missed_members object_by
@@ -57,20 +50,8 @@ undelivered_read = list_read missed_at missed_tokens IsTypedMissed missed_item (
 -- the members of a refusal, and of any reply
 refusal_read : (refusal : Refusal) (rest : List Token) → IsTypedRefusal refusal → refusal_in (refusal_members refusal ++ rest) ≡ Some (No refusal, rest)
 unfolding count_at count_in count_member refusal_in word_in word_member
-refusal_read NoProcess rest typed = refl
-refusal_read NotRunning rest typed = refl
-refusal_read BadNumber rest typed = refl
-refusal_read NumberTaken rest typed = refl
-refusal_read Doomed rest typed = refl
-refusal_read Parked rest typed = refl
-refusal_read KillPending rest typed = refl
 refusal_read (Busy starter) rest typed = rw (count_read starter.0 (omega (arith, typed))) refl
-refusal_read Wait rest typed = refl
-refusal_read NotDeliverable rest typed = refl
-refusal_read FramesFull rest typed = refl
-refusal_read NoTransaction rest typed = refl
-refusal_read NoMemory rest typed = refl
-refusal_read Deferred rest typed = refl
+refusal_read _ rest typed = refl
 
 refused_reply : (refusal : Refusal) (rest : List Token) → IsTypedRefusal refusal → reply_in (refusal_members refusal ++ rest) ≡ Some (No refusal, rest)
 unfolding reply_in

@@ -13,7 +13,3 @@ pub answered : {A B : Type 0} (G : Grammar A) (text : List ℕ) (spelled : A) (r
     → IfOk result (λ answer. string_bytes answer ≡ G.answer spelled) → IfErr result (λ fault. fault ≡ NoMemory) → AnswersText G text result
 answered G text spelled (Ok answer) good same answers none = (spelled, good, same, answers)
 answered G text spelled (Err fault) good same answers none = subst (FaultsBy (IsOwnFault G.IsFault text)) (sym none) tt
-
--- a fault of a schedule is one here
-pub also_here : (text : List ℕ) (fault : Fault) → FaultsBy (IsOwnFault IsFaultOf text) fault → FaultsBy (IsOwnFault IsPictureFault text) fault
-also_here text fault = own_as IsFaultOf IsPictureFault text fault (λ meant is. inl is)

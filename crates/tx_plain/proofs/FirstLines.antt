@@ -51,26 +51,6 @@ one_more spelling AreGood IsGood taken more line left rest text so is ended adds
   parts = text_more spelling taken adds.added more text left rest so.parts (next_left left line rest is ended ∙ ap (λ (t : List ℕ). t ++ 10 ∷ rest) adds.spelled) adds.more;
 }
 
--- nothing is left
-pub all_before : {A : Type 0} (spelling : A → List ℕ) (AreGood : List A → Type 0) (things : List A) (left text : List ℕ) → left ≡ [] → IsBefore spelling AreGood things left text → text ≡ lines_of spelling things
-all_before spelling AreGood things left text none so = so.parts ∙ ap (λ (t : List ℕ). lines_of spelling things ++ t) none ∙ append-nil (lines_of spelling things)
-
--- a schedule behind which nothing is left
-pub whole_schedule : (text left : List ℕ) (schedule : Schedule) → BeginsWith schedule.header schedule.steps.items left (meant_of text) → left ≡ [] → MeansSchedule text schedule
-whole_schedule text left schedule (behind, spells, so) none = (
-  record { header_fits = spells.fits; steps_fit = so.good },
-  spells.spelled ∙ ap (λ (t : List ℕ). header_text kinds.Schedule schedule.header ++ 10 ∷ t) (all_before step_text (AreSteps schedule.header.version) schedule.steps.items left behind none so),
-)
-
--- a schedule, the line before commands, and commands behind that
-pub whole_walk : (text : List ℕ) (header : Header) (steps : List Step) (commands : List Command) (left rest : List ℕ) → BeginsWith header steps left text → left ≡ debug_line ++ 10 ∷ rest
-    → AreCommands header.version commands → rest ≡ lines_of command_text commands → IsWalk header steps commands × (text ≡ walk_text header steps commands)
-whole_walk text header steps commands left rest (behind, spells, so) debug are same = (
-  record { schedule_fits = record { header_fits = spells.fits; steps_fit = so.good }; commands_fit = are },
-  spells.spelled ∙ ap (λ (t : List ℕ). header_text kinds.Schedule header ++ 10 ∷ t)
-      (so.parts ∙ ap (λ (t : List ℕ). steps_text steps ++ t) (debug ∙ ap (λ (t : List ℕ). debug_line ++ 10 ∷ t) same)),
-)
-
 -- lines of a program with one more, of which there are not too many
 pub program_lines : (version : Version) (line : List ℕ) (lines more : List Line) (count labels : ℕ) → AreLines version lines → Adds line_text (IsLineOf version) line lines more
     → IsDistinct same_name (keys_of (labels_of more)) → count ≡ length more → labels ≡ length (labels_of more) → labels ≤ 256 → count ≤ 1024 + labels → AreLines version more

@@ -37,19 +37,7 @@ abort_is_one V worker (Some mark) = entry_is_one worker (KernelAbort mark.starte
 
 refused_is_one : (V : View) (worker p : ℕ) (step : Step) (refusal : Refusal) → IsOneAtMost worker (adds_by V worker p step (No refusal))
 refused_is_one V worker p step why.Doomed = abort_is_one V worker (V.table.marks p)
-refused_is_one V worker p step why.NoProcess = inl refl
-refused_is_one V worker p step why.NotRunning = inl refl
-refused_is_one V worker p step why.BadNumber = inl refl
-refused_is_one V worker p step why.NumberTaken = inl refl
-refused_is_one V worker p step why.Parked = inl refl
-refused_is_one V worker p step why.KillPending = inl refl
-refused_is_one V worker p step (why.Busy starter_in_way) = inl refl
-refused_is_one V worker p step why.Wait = inl refl
-refused_is_one V worker p step why.NotDeliverable = inl refl
-refused_is_one V worker p step why.FramesFull = inl refl
-refused_is_one V worker p step why.NoTransaction = inl refl
-refused_is_one V worker p step why.NoMemory = inl refl
-refused_is_one V worker p step why.Deferred = inl refl
+refused_is_one V worker p step _ = inl refl
 
 step_is_one : (V : View) (worker p : ℕ) (step : Step) (reply : Reply) → IsOneAtMost worker (adds_by V worker p step reply)
 step_is_one V worker p step (No refusal) = refused_is_one V worker p step refusal

@@ -19,9 +19,6 @@ pub unplaced : (number place : ℕ) (left later : List Entry) (e : Entry) → le
 unplaced number place left later e first_is other =
     ap (places_of number place) first_is ∙ ap (λ b. placed_if b place (places_of number (place + 1) later)) (other_is number e other)
 
-pub skipped : (number : ℕ) (left later : List Entry) (e : Entry) → left ≡ e ∷ later → (e.worker ≡ number → ⊥) → notes_of number left ≡ notes_of number later
-skipped number left later e first_is other = ap (notes_of number) first_is ∙ ap (λ b. noted_if b e (notes_of number later)) (other_is number e other)
-
 -- a worker has as many places as notes
 as_many : (number place : ℕ) (entries : List Entry) → length (places_of number place entries) ≡ length (notes_of number entries)
 as_many number place [] = refl
