@@ -146,7 +146,10 @@ where
     requires { IsFresh (W.counts sink.old) }
 {
     let Some(word) = word else {
-        return status_of(rt, write_whole(sink, listing().as_bytes()));
+        let Ok(list) = listing(alloc) else {
+            return out_of_memory(rt);
+        };
+        return status_of(rt, write_whole(sink, list.as_bytes()));
     };
     let Some(text) = explain(word) else {
         return unexplained(rt, alloc, word);
