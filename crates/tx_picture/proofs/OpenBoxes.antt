@@ -15,76 +15,68 @@ use Rattle.tx_model.specs.View.{View, next, view}
 use Rattle.tx_picture.specs.Boxes.{Changes, MembersChange, open_box, OpenBoxesAreOfMembers}
 use Rattle.tx_picture.specs.Drawings.{drawn_from, drawn_with, ending, first_drawn, members}
 use Rattle.tx_picture.specs.Drawn.{Drawn}
-use Rattle.tx_picture.specs.Spans.{ended_at, followed, followed_upto, has_open, is_open_at, opened}
+use Rattle.tx_picture.specs.Spans.{begun, begun_upto, ended_by, followed_upto, has_open, is_open_at, opened}
 use Rattle.tx_picture.specs.declared.spans.End.{End}
 use Rattle.tx_picture.specs.declared.spans.Span.{Span}
 use Rattle.tx_script.specs.Report.{start_state}
 
--- A step of one process
+-- Ends
 
--- an end is put on the stretches of process p alone
-end_one : (p : ℕ) (end : End) (span : Span) (rest : List Span) → open_box p (ended_at p end span ∷ rest) ≡ open_box p rest
-end_one p end span rest = by (is_open_at p span) refl
-  where
-    by : (b : Bool) → is_open_at p span ≡ b → open_box p ((if b then record span { end = Some end } else span) ∷ rest) ≡ open_box p rest
-    by true e = refl
-    by false e = rw e refl
+and_true : (a b : Bool) → (a && b) ≡ true → (a ≡ true) × (b ≡ true)
+and_true true b h = (refl, h)
+and_true false b h = absurd (both_ways false refl h)
 
-ended_none : (p : ℕ) (end : End) (spans : List Span) → open_box p (map (ended_at p end) spans) ≡ None
-ended_none p end [] = refl
-ended_none p end (span ∷ spans) = end_one p end span (map (ended_at p end) spans) ∙ ended_none p end spans
+open_cons : (p : ℕ) (span : Span) (spans : List Span) → is_open_at p span ≡ true → open_box p (span ∷ spans) ≡ Some span.holder
+open_cons p span spans e = rw e refl
 
-and_false : (a : Bool) → (a && false) ≡ false
-and_false true = refl
-and_false false = refl
+closed_cons : (p : ℕ) (span : Span) (spans : List Span) → is_open_at p span ≡ false → open_box p (span ∷ spans) ≡ open_box p spans
+closed_cons p span spans e = rw e refl
 
-and_right : (a b : Bool) → (a && b) ≡ true → b ≡ true
-and_right true b h = h
-and_right false b h = absurd (both_ways false refl h)
+module _ (holders : ℕ → Option Pid) (end : End) where
+  -- what is no open stretch of process p is none after it
+  stays_closed : (p : ℕ) (span : Span) → is_open_at p span ≡ false → is_open_at p (ended_by holders end span) ≡ false
+  stays_closed p span e = by (is_none span.end && is_none (holders span.process.0))
+    where
+      by : (b : Bool) → is_open_at p (if b then record span { end = Some end } else span) ≡ false
+      by true = refl
+      by false = e
 
-other_process : (p q n : ℕ) → q ≢ p → n ≡ q → (n == p) ≡ false
-other_process p q n ne same = by (n == p) refl
-  where
-    by : (b : Bool) → (n == p) ≡ b → b ≡ false
-    by true e = absurd (ne (sym same ∙ eqb-true n p e))
-    by false e = refl
+  -- an open one ends where the process has no holder, and stays as it was where it has one
+  at_open : (p : ℕ) (span : Span) → is_open_at p span ≡ true → ended_by holders end span ≡ (if is_none (holders p) then record span { end = Some end } else span)
+  at_open p span e =
+      let parts = and_true (is_none span.end) (span.process.0 == p) e in
+      let ends : (is_none span.end && is_none (holders span.process.0)) ≡ is_none (holders p) =
+      ap (λ (b : Bool). b && is_none (holders span.process.0)) parts.0 ∙ ap (λ (q : ℕ). is_none (holders q)) (eqb-true span.process.0 p parts.1) in
+      ap (λ (b : Bool). if b then record span { end = Some end } else span) ends
 
--- an open stretch of process q is none of another process
-not_open_at : (p q : ℕ) (span : Span) → q ≢ p → span.process.0 ≡ q → is_open_at p span ≡ false
-not_open_at p q span ne same = ap (λ (b : Bool). is_none span.end && b) (other_process p q span.process.0 ne same) ∙ and_false (is_none span.end)
+  closes : (p : ℕ) (span : Span) → is_open_at p span ≡ true → holders p ≡ None → is_open_at p (ended_by holders end span) ≡ false
+  closes p span e none =
+      ap (is_open_at p) (at_open p span e) ∙ ap (λ (h : Option Pid). is_open_at p (if is_none h then record span { end = Some end } else span)) none
 
-end_other : (p q : ℕ) (end : End) (span : Span) → q ≢ p → is_open_at p (ended_at q end span) ≡ is_open_at p span
-end_other p q end span ne = by (is_open_at q span) refl
-  where
-    by : (b : Bool) → is_open_at q span ≡ b → is_open_at p (if b then record span { end = Some end } else span) ≡ is_open_at p span
-    by true e = sym (not_open_at p q span ne (eqb-true span.process.0 q (and_right (is_none span.end) (span.process.0 == q) e)))
-    by false e = refl
+  stays_open : (p : ℕ) (t : Pid) (span : Span) → is_open_at p span ≡ true → holders p ≡ Some t → ended_by holders end span ≡ span
+  stays_open p t span e some = at_open p span e ∙ ap (λ (h : Option Pid). if is_none h then record span { end = Some end } else span) some
 
-holder_kept : (q : ℕ) (end : End) (span : Span) → (ended_at q end span).holder ≡ span.holder
-holder_kept q end span = by (is_open_at q span)
-  where
-    by : (b : Bool) → (if b then record span { end = Some end } else span).holder ≡ span.holder
-    by true = refl
-    by false = refl
+  ended_none : (p : ℕ) (spans : List Span) → holders p ≡ None → open_box p (map (ended_by holders end) spans) ≡ None
+  ended_none p [] none = refl
+  ended_none p (span ∷ spans) none =
+      closed_cons p (ended_by holders end span) (map (ended_by holders end) spans) (closed (is_open_at p span) refl) ∙ ended_none p spans none
+    where
+      closed : (b : Bool) → is_open_at p span ≡ b → is_open_at p (ended_by holders end span) ≡ false
+      closed true e = closes p span e none
+      closed false e = stays_closed p span e
 
-box_of : Bool → Pid → Option Pid → Option Pid
-box_of here holder rest = if here then Some holder else rest
+  ended_kept : (p : ℕ) (t : Pid) (spans : List Span) → holders p ≡ Some t → open_box p (map (ended_by holders end) spans) ≡ open_box p spans
+  ended_kept p t [] some = refl
+  ended_kept p t (span ∷ spans) some = by (is_open_at p span) refl (ended_kept p t spans some)
+    where
+      by : (b : Bool) → is_open_at p span ≡ b → open_box p (map (ended_by holders end) spans) ≡ open_box p spans
+          → open_box p (ended_by holders end span ∷ map (ended_by holders end) spans) ≡ open_box p (span ∷ spans)
+      by true e rest =
+          ap (λ (s : Span). open_box p (s ∷ map (ended_by holders end) spans)) (stays_open p t span e some) ∙ open_cons p span (map (ended_by holders end) spans) e ∙ sym (open_cons p span spans e)
+      by false e rest =
+          closed_cons p (ended_by holders end span) (map (ended_by holders end) spans) (stays_closed p span e) ∙ rest ∙ sym (closed_cons p span spans e)
 
-box_cons : (p : ℕ) (span : Span) (spans : List Span) → open_box p (span ∷ spans) ≡ box_of (is_open_at p span) span.holder (open_box p spans)
-unfolding box_of
-box_cons p span spans = by (is_open_at p span) refl
-  where
-    by : (b : Bool) → is_open_at p span ≡ b → open_box p (span ∷ spans) ≡ (if b then Some span.holder else open_box p spans)
-    by true e = rw e refl
-    by false e = rw e refl
-
-ended_other : (p q : ℕ) (end : End) (spans : List Span) → q ≢ p → open_box p (map (ended_at q end) spans) ≡ open_box p spans
-ended_other p q end [] ne = refl
-ended_other p q end (span ∷ spans) ne =
-    box_cons p (ended_at q end span) (map (ended_at q end) spans)
-    ∙ ap (λ (b : Bool). box_of b (ended_at q end span).holder (open_box p (map (ended_at q end) spans))) (end_other p q end span ne)
-    ∙ ap (λ (h : Pid). box_of (is_open_at p span) h (open_box p (map (ended_at q end) spans))) (holder_kept q end span)
-    ∙ ap (box_of (is_open_at p span) span.holder) (ended_other p q end spans ne) ∙ sym (box_cons p span spans)
+-- Beginnings
 
 or_box : Option Pid → Option Pid → Option Pid
 or_box None other = other
@@ -102,8 +94,15 @@ added p (span ∷ spans) more = by (is_open_at p span) refl (added p spans more)
 open_here : (p : ℕ) (holder : Pid) (row : ℕ) → open_box p (opened p holder row ∷ []) ≡ Some holder
 open_here p holder row = rw (eq-eqb p p refl) refl
 
+other_process : (p q : ℕ) → q ≢ p → (q == p) ≡ false
+other_process p q ne = by (q == p) refl
+  where
+    by : (b : Bool) → (q == p) ≡ b → b ≡ false
+    by true e = absurd (ne (eqb-true q p e))
+    by false e = refl
+
 open_elsewhere : (p q : ℕ) (holder : Pid) (row : ℕ) → q ≢ p → open_box p (opened q holder row ∷ []) ≡ None
-open_elsewhere p q holder row ne = rw (other_process p q q ne refl) refl
+open_elsewhere p q holder row ne = rw (other_process p q ne) refl
 
 some_box : Option Pid → Bool
 some_box None = false
@@ -119,49 +118,55 @@ has_box p (span ∷ spans) = by (is_open_at p span) refl (has_box p spans)
     by false e rest = rw e rest
 
 -- where none changes over, the process's own box is of whose member it is now
-own : (p : ℕ) (holder before : Option Pid) (end : End) (spans : List Span) → open_box p spans ≡ before → ((s t : Pid) → before ≡ Some s → holder ≡ Some t → t ≡ s)
-    → open_box p (followed p holder end spans) ≡ holder
+own : (p : ℕ) (holder before : Option Pid) (row : ℕ) (spans : List Span) → open_box p spans ≡ before → (holder ≡ None → before ≡ None)
+    → ((s t : Pid) → before ≡ Some s → holder ≡ Some t → t ≡ s) → open_box p (begun p holder row spans) ≡ holder
 unfolding some_box or_box
-own p None before end spans is stays = ended_none p end spans
-own p (Some t) None end spans is stays =
-    rw (has_box p spans ∙ ap some_box is) (added p spans (opened p t end.row ∷ []) ∙ ap (λ (o : Option Pid). or_box o (open_box p (opened p t end.row ∷ []))) is ∙ open_here p t end.row)
-own p (Some t) (Some s) end spans is stays = rw (has_box p spans ∙ ap some_box is) (is ∙ ap Some (sym (stays s t refl refl)))
+own p None before row spans is none stays = is ∙ none refl
+own p (Some t) None row spans is none stays =
+    rw (has_box p spans ∙ ap some_box is) (added p spans (opened p t row ∷ []) ∙ ap (λ (o : Option Pid). or_box o (open_box p (opened p t row ∷ []))) is ∙ open_here p t row)
+own p (Some t) (Some s) row spans is none stays = rw (has_box p spans ∙ ap some_box is) (is ∙ ap Some (sym (stays s t refl refl)))
 
-others : (p q : ℕ) (holder : Option Pid) (end : End) (spans : List Span) → q ≢ p → open_box p (followed q holder end spans) ≡ open_box p spans
+others : (p q : ℕ) (holder : Option Pid) (row : ℕ) (spans : List Span) → q ≢ p → open_box p (begun q holder row spans) ≡ open_box p spans
 unfolding or_box
-others p q None end spans ne = ended_other p q end spans ne
-others p q (Some t) end spans ne = by (has_open q spans)
+others p q None row spans ne = refl
+others p q (Some t) row spans ne = by (has_open q spans)
   where
     none_more : (o : Option Pid) → or_box o None ≡ o
     none_more None = refl
     none_more (Some holder) = refl
 
-    by : (b : Bool) → open_box p (if b then spans else spans ++ opened q t end.row ∷ []) ≡ open_box p spans
+    by : (b : Bool) → open_box p (if b then spans else spans ++ opened q t row ∷ []) ≡ open_box p spans
     by true = refl
-    by false = added p spans (opened q t end.row ∷ []) ∙ ap (or_box (open_box p spans)) (open_elsewhere p q t end.row ne) ∙ none_more (open_box p spans)
+    by false = added p spans (opened q t row ∷ []) ∙ ap (or_box (open_box p spans)) (open_elsewhere p q t row ne) ∙ none_more (open_box p spans)
 
 -- A step, for all processes
 
-above : (holders : ℕ → Option Pid) (end : End) (n p : ℕ) (spans : List Span) → n < p → open_box p (followed_upto holders end n spans) ≡ open_box p spans
-unfolding followed_upto
-above holders end zero p spans far = refl
-above holders end (suc n) p spans far =
-    others p (suc n) (holders (suc n)) end (followed_upto holders end n spans) (λ same. omega (arith, same, far)) ∙ above holders end n p spans (omega (arith, far))
+above : (holders : ℕ → Option Pid) (row n p : ℕ) (spans : List Span) → n < p → open_box p (begun_upto holders row n spans) ≡ open_box p spans
+unfolding begun_upto
+above holders row zero p spans far = refl
+above holders row (suc n) p spans far =
+    others p (suc n) (holders (suc n)) row (begun_upto holders row n spans) (λ same. omega (arith, same, far)) ∙ above holders row n p spans (omega (arith, far))
+
+begun_within : (holders : ℕ → Option Pid) (row n p : ℕ) (spans : List Span) → 1 ≤ p → p ≤ n → (holders p ≡ None → open_box p spans ≡ None)
+    → ((s t : Pid) → open_box p spans ≡ Some s → holders p ≡ Some t → t ≡ s) → open_box p (begun_upto holders row n spans) ≡ holders p
+unfolding begun_upto
+begun_within holders row zero p spans low high none stays = absurd (omega (arith, low, high))
+begun_within holders row (suc n) p spans low high none stays = by (suc n == p) refl (λ fewer. begun_within holders row n p spans low fewer none stays)
+  where
+    by : (b : Bool) → (suc n == p) ≡ b → (p ≤ n → open_box p (begun_upto holders row n spans) ≡ holders p) → open_box p (begun (suc n) (holders (suc n)) row (begun_upto holders row n spans)) ≡ holders p
+    by true e rest =
+        let same : suc n ≡ p = eqb-true (suc n) p e in
+        subst (λ (k : ℕ). open_box p (begun k (holders k) row (begun_upto holders row n spans)) ≡ holders p) (sym same)
+        (own p (holders p) (open_box p spans) row (begun_upto holders row n spans) (above holders row n p spans (omega (arith, same))) none stays)
+    by false e rest =
+        let other : suc n ≢ p = λ same. both_ways (suc n == p) e (eq-eqb (suc n) p same) in
+        others p (suc n) (holders (suc n)) row (begun_upto holders row n spans) other ∙ rest (omega (arith, high, other))
 
 within : (holders : ℕ → Option Pid) (end : End) (n p : ℕ) (spans : List Span) → 1 ≤ p → p ≤ n → ((s t : Pid) → open_box p spans ≡ Some s → holders p ≡ Some t → t ≡ s)
     → open_box p (followed_upto holders end n spans) ≡ holders p
-unfolding followed_upto
-within holders end zero p spans low high stays = absurd (omega (arith, low, high))
-within holders end (suc n) p spans low high stays = by (suc n == p) refl (λ fewer. within holders end n p spans low fewer stays)
-  where
-    by : (b : Bool) → (suc n == p) ≡ b → (p ≤ n → open_box p (followed_upto holders end n spans) ≡ holders p) → open_box p (followed (suc n) (holders (suc n)) end (followed_upto holders end n spans)) ≡ holders p
-    by true e rest =
-        let same : suc n ≡ p = eqb-true (suc n) p e in
-        subst (λ (k : ℕ). open_box p (followed k (holders k) end (followed_upto holders end n spans)) ≡ holders p) (sym same)
-        (own p (holders p) (open_box p spans) end (followed_upto holders end n spans) (above holders end n p spans (omega (arith, same))) stays)
-    by false e rest =
-        let other : suc n ≢ p = λ same. both_ways (suc n == p) e (eq-eqb (suc n) p same) in
-        others p (suc n) (holders (suc n)) end (followed_upto holders end n spans) other ∙ rest (omega (arith, high, other))
+within holders end n p spans low high stays =
+    begun_within holders end.row n p (map (ended_by holders end) spans) low high (ended_none holders end p spans)
+    (λ s t was now. stays s t (sym (ended_kept holders end p t spans now) ∙ was) now)
 
 -- A schedule
 

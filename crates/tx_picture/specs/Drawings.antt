@@ -18,6 +18,8 @@ use Rattle.tx_picture.specs.Ties.{sent_to}
 use Rattle.tx_picture.specs.Transfers.{access_of}
 use Rattle.tx_picture.specs.declared.passages.Transfer.{Transfer}
 use Rattle.tx_picture.specs.declared.spans.End.{End}
+use Rattle.tx_picture.specs.declared.spans.Stretch.{Stretch}
+use Rattle.tx_picture.specs.declared.spans.Stretch.TheVariants.{Lane, Strip}
 use Rattle.tx_script.specs.Report.{start_of, start_state}
 
 -- the process itself, where it runs
@@ -30,6 +32,11 @@ runners V p = runner p ((present V).procs p)
 -- the starter of the transaction that it is a member of
 abbrev pub members : View → ℕ → Option Pid
 members V p = option_map (λ m. m.starter) (V.table.marks p)
+
+-- whose a stretch of a process is: a lane its own, and a strip that of the starter of its transaction
+abbrev pub holders : Stretch → View → ℕ → Option Pid
+holders Lane V = runners V
+holders Strip V = members V
 
 -- the starter of the one transaction, unless the other is the same
 abbrev pub unless_same : Option Pid → Option Pid → Option Pid

@@ -1,7 +1,7 @@
 //! Stretches of columns: from where a process runs, or is a member of a transaction, to where it is
 //! none any more.
-ghost use Rattle.std.specs.Prelude.{◌≡◌, OnOk, map};
-ghost use Rattle.tx_picture.specs.Spans.{ended_at, followed, has_open, is_open_at};
+ghost use Rattle.std.specs.Prelude.{◌≡◌, OnOk};
+ghost use Rattle.tx_picture.specs.Spans.{begun, has_open, is_open_at};
 
 use std::alloc::AllocError;
 use tx_base::Pid;
@@ -28,55 +28,41 @@ pub struct Span {
     pub end: Option<End>,
 }
 
-/// Follows a process over a step: a stretch of it begins where it has a holder then and had no open
-/// stretch, and its open stretch ends where it has none.
+/// What a stretch is of.
+#[derive(Clone, Copy)]
+pub(crate) enum Stretch {
+    /// Of a process, while it runs.
+    Lane,
+    /// Of the transaction that a process is a member of.
+    Strip,
+}
+
+/// Begins a stretch of a process in a row, where it has a holder and no open stretch.
 ///
 /// The only error is that a growth of memory was refused: the list is then as it was.
-pub(crate) fn follow(
+pub(crate) fn begin(
     spans: &mut Vec<Span>,
     process: Pid,
     holder: Option<Pid>,
-    end: End,
+    row: u16,
 ) -> Result<(), AllocError>
-    ensures { OnOk result
-        (spans.new.items ≡ followed process.0 holder end spans.old.items) }
+    ensures { OnOk result (spans.new.items ≡ begun process.0 holder row spans.old.items) }
 {
     match holder {
-        None => end_open(spans.as_mut_slice(), process, end),
+        None => Ok(()),
         Some(holder) => {
-            if !has_open(spans.as_slice(), process) {
-                spans.push(Span {
-                    process,
-                    holder,
-                    from: end.row,
-                    end: None,
-                })?;
+            if has_open(spans.as_slice(), process) {
+                return Ok(());
             }
+            spans.push(Span {
+                process,
+                holder,
+                from: row,
+                end: None,
+            })?;
+            Ok(())
         }
     }
-    Ok(())
-}
-
-/// Ends the open stretch of a process, if it has one.
-fn end_open(spans: &mut [Span], process: Pid, end: End)
-    ensures { spans.new ≡ map (ended_at process.0 end) spans.old }
-{
-    for span in spans.iter_mut() {
-        *span = ended_at(*span, process, end);
-    }
-}
-
-/// The stretch after a step at which a process's own one ends.
-fn ended_at(span: Span, process: Pid, end: End) -> Span
-    ensures { result ≡ ended_at process.0 end span }
-{
-    if is_open_at(&span, process) {
-        return Span {
-            end: Some(end),
-            ..span
-        };
-    }
-    span
 }
 
 /// Whether a process has an open stretch.

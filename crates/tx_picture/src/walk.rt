@@ -1,5 +1,5 @@
 //! Makes the steps of a schedule, and notes what there is to draw of them.
-ghost use Rattle.std.specs.Prelude.{◌≡◌, ◌≤◌, ◌<◌, ◌^◌, [], List, IfErr, IfOk, OnOk, Some, None, length, option_map};
+ghost use Rattle.std.specs.Prelude.{◌≡◌, ◌≤◌, ◌<◌, ◌^◌, [], List, IfErr, IfOk, OnOk, Some, None, length, map, option_map};
 ghost use Rattle.tx_base.specs.declared.steps.Accepted.{Accepted};
 ghost use Rattle.tx_core.specs.Runs.{IsAfter};
 ghost use Rattle.tx_lines.specs.Lines.{FitsHeader};
@@ -9,15 +9,15 @@ ghost use Rattle.tx_model.specs.Answer.{answer};
 ghost use Rattle.tx_model.specs.Schedules.{history_of, history_with};
 ghost use Rattle.tx_model.specs.State.{State};
 ghost use Rattle.tx_model.specs.View.{present, role_on};
-ghost use Rattle.tx_picture.specs.Drawings.{drawing_of, drawn_from, drawn_with, first_drawn, holder_of, is_abort, members, runner, runners};
+ghost use Rattle.tx_picture.specs.Drawings.{drawing_of, drawn_from, drawn_with, first_drawn, holder_of, holders, is_abort, runner};
 ghost use Rattle.tx_picture.specs.Drawn.{drawn_as};
-ghost use Rattle.tx_picture.specs.Spans.{followed_upto};
+ghost use Rattle.tx_picture.specs.Spans.{ended_by, followed_upto};
 
 use crate::columns::maker;
 use crate::drawing::Drawing;
 use crate::passages::{note_passages, note_written};
 use crate::rows::Row;
-use crate::spans::{End, Span, follow};
+use crate::spans::{End, Span, Stretch, begin};
 use crate::ties::sent_to;
 use crate::transfers::transfer_of;
 use std::alloc::{AllocError, Global};
@@ -52,7 +52,7 @@ fn first_drawing(alloc: Global, machine: &Machine) -> Result<Drawing, AllocError
         aborted: false,
     };
     let mut lanes = Vec::new(alloc);
-    follow_runners(&mut lanes, machine, start)?;
+    follow(&mut lanes, machine, Stretch::Lane, start)?;
     Ok(Drawing {
         rows: Vec::new(alloc),
         lanes,
@@ -127,8 +127,8 @@ fn draw_step(
         return Err(Fault::NoMemory);
     }
     let end = End { row, aborted };
-    follow_runners(&mut drawing.lanes, machine, end)?;
-    follow_members(&mut drawing.strips, machine, end)?;
+    follow(&mut drawing.lanes, machine, Stretch::Lane, end)?;
+    follow(&mut drawing.strips, machine, Stretch::Strip, end)?;
     Ok(())
 }
 
@@ -179,17 +179,57 @@ fn holder_of(machine: &Machine, step: &Step) -> Option<Pid>
     Some(starter)
 }
 
-/// Follows each process by whether it runs.
-fn follow_runners(lanes: &mut Vec<Span>, machine: &Machine, end: End) -> Result<(), AllocError>
-    ensures { OnOk result (lanes.new.items
-        ≡ followed_upto (runners (view_of machine.now)) end (view_of machine.now).table.width
-        lanes.old.items) }
+/// Follows the processes over a step: the open stretch of one without a holder then ends, and one begins
+/// of each process that has a holder and no open stretch.
+fn follow(
+    spans: &mut Vec<Span>,
+    machine: &Machine,
+    stretch: Stretch,
+    end: End,
+) -> Result<(), AllocError>
+    ensures { OnOk result (spans.new.items ≡ followed_upto
+        (holders stretch (view_of machine.now)) end (view_of machine.now).table.width
+        spans.old.items) }
 {
+    end_open(spans.as_mut_slice(), machine, stretch, end);
     for done in 0..machine.processes() {
         let process = Pid(done + 1);
-        follow(lanes, process, runner(machine, process), end)?;
+        begin(spans, process, holder(machine, stretch, process), end.row)?;
     }
     Ok(())
+}
+
+/// Ends each open stretch of a process without a holder.
+fn end_open(spans: &mut [Span], machine: &Machine, stretch: Stretch, end: End)
+    ensures { spans.new ≡ map (ended_by (holders stretch (view_of machine.now)) end) spans.old }
+{
+    for span in spans.iter_mut() {
+        *span = ended_by(*span, machine, stretch, end);
+    }
+}
+
+/// The stretch, which ends there if it is an open one of a process without a holder.
+fn ended_by(span: Span, machine: &Machine, stretch: Stretch, end: End) -> Span
+    ensures { result ≡ ended_by (holders stretch (view_of machine.now)) end span }
+{
+    if span.end.is_none() && holder(machine, stretch, span.process).is_none() {
+        return Span {
+            end: Some(end),
+            ..span
+        };
+    }
+    span
+}
+
+/// Whose a stretch of a process is: its own where it runs, or that of the starter of the transaction that
+/// it is a member of.
+fn holder(machine: &Machine, stretch: Stretch, process: Pid) -> Option<Pid>
+    ensures { result ≡ holders stretch (view_of machine.now) process.0 }
+{
+    match stretch {
+        Stretch::Lane => runner(machine, process),
+        Stretch::Strip => machine.txn_of(process),
+    }
 }
 
 /// The process itself, where it runs.
@@ -201,17 +241,4 @@ fn runner(machine: &Machine, process: Pid) -> Option<Pid>
         Some(_) => None,
         None => Some(process),
     }
-}
-
-/// Follows each process by the transaction that it is a member of.
-fn follow_members(strips: &mut Vec<Span>, machine: &Machine, end: End) -> Result<(), AllocError>
-    ensures { OnOk result (strips.new.items
-        ≡ followed_upto (members (view_of machine.now)) end (view_of machine.now).table.width
-        strips.old.items) }
-{
-    for done in 0..machine.processes() {
-        let process = Pid(done + 1);
-        follow(strips, process, machine.txn_of(process), end)?;
-    }
-    Ok(())
 }
