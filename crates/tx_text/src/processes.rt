@@ -14,7 +14,7 @@ use std::fmt::Write;
 use tx_base::{PAGE_BYTES, PAGES, Pid};
 use tx_change::Parts;
 use tx_cred::Cred;
-use tx_lines::{put, put_byte};
+use tx_lines::{put, put_byte, put_count};
 use tx_pages::{Page, Space};
 use tx_proc::Proc;
 
@@ -32,6 +32,7 @@ pub fn put_procs(text: &mut String, parts: &Parts, width: u16) -> Result<(), All
 }
 
 /// Appends the lines of a process number: none where there is no process.
+#[inline(always)] // each number up to a width asks it, and few are processes
 pub fn put_slot_lines(text: &mut String, pid: Pid, slot: Option<&Proc>) -> Result<(), AllocError>
     ensures { OnOk result
         (string_bytes text.new ≡ string_bytes text.old
@@ -168,6 +169,8 @@ fn put_byte_at(text: &mut String, offset: usize, byte: u8) -> Result<(), AllocEr
     if byte == 0 {
         return Ok(());
     }
-    write!(text, " {offset}=")?;
+    put(text, " ")?;
+    put_count(text, offset as u64)?;
+    put(text, "=")?;
     put_byte(text, byte)
 }

@@ -5,7 +5,7 @@ ghost use Rattle.tx_text.specs.Registers.{is_blank_of, run_text, slot_text, slot
 use std::alloc::AllocError;
 use std::fmt::Write;
 use tx_base::Regs;
-use tx_lines::put;
+use tx_lines::{put, put_number};
 
 /// Appends the end of a running process's line.
 pub fn put_run(text: &mut String, regs: &Regs) -> Result<(), AllocError>
@@ -46,5 +46,6 @@ pub fn put_slots(text: &mut String, slots: &[i64; 8]) -> Result<(), AllocError>
 fn put_slot(text: &mut String, slot: &i64) -> Result<(), AllocError>
     ensures { OnOk result (string_bytes text.new ≡ string_bytes text.old ++ slot_text slot.now) }
 {
-    write!(text, " {slot}")
+    put(text, " ")?;
+    put_number(text, *slot)
 }
