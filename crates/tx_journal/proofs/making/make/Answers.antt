@@ -1,18 +1,15 @@
-use Rattle.std.proofs.Common.{ℕ, ◌+◌, ◌≤◌, sym, ap, subst, ◌∙◌}
+use Rattle.std.proofs.Common.{ℕ, ◌+◌, ◌≤◌, sym, ap, subst, ◌∙◌, arith}
 use Rattle.tx_journal.proofs.Made.{added, live_some, room_entries, room_inverses}
 use Rattle.tx_journal.specs.Lives.{one_if}
 use Rattle.tx_journal.specs.declared.entry.Entry.{Entry}
+use Rattle.std.proofs.lemmas.Grind.{common_steps}
 use Rattle.tx_journal.proofs.making.make.Goals as goal
 
 pub add-requires-clause-entries : goal.add-requires-clause-entries
-add-requires-clause-entries c =
-    room_entries c.laws.ensures c.args.machine.now c.step_into.new.self c.args.journal.now c.args.step.now c.step_into.new.reply c.step_into.new.inverse c.requires.sound c.requires.at_end c.requires.counted c.requires.ready
-    (c.step_into.ensures.accepted c.if-not-step_into.false)
+add-requires-clause-entries c = grind (arith, common_steps, room_entries)
 
 pub add-requires-clause-inverses : goal.add-requires-clause-inverses
-add-requires-clause-inverses c =
-    room_inverses c.laws.ensures c.args.machine.now c.step_into.new.self c.args.journal.now c.args.step.now c.step_into.new.reply c.step_into.new.inverse c.requires.sound c.requires.at_end c.requires.counted c.requires.ready
-    (c.step_into.ensures.accepted c.if-not-step_into.false)
+add-requires-clause-inverses c = grind (arith, common_steps, room_inverses)
 
 pub live_after-journal-requires-clause-some : goal.live_after-journal-requires-clause-some
 live_after-journal-requires-clause-some c live =

@@ -1,15 +1,12 @@
-use Rattle.std.proofs.Common.{rules, length, ◌≡◌, ℕ, ◌-◌, Bool, ◌&&◌, ◌++◌, List, [], arith, sym, ap, ◌∙◌}
+use Rattle.std.proofs.Common.{rules, length, ◌≡◌, ℕ, ◌-◌, ◌++◌, List, arith, sym, ap, ◌∙◌}
 use Rattle.std.proofs.lemmas.List.{append-nil}
 use Rattle.tx_journal.proofs.Parting.{and_more, and_past, and_true, parted_first, parted_none, parted_other, parted_own, pushed, silent_first, silent_none, silent_other, silent_own, unpushed}
 use Rattle.tx_journal.specs.Moved.{Numbers, numbers_above}
+use Rattle.std.proofs.lemmas.Grind.{common_steps}
 use Rattle.tx_journal.proofs.parted.part.Goals as goal
 
 pub returns-then-begins_its-clause-own : goal.returns-then-begins_its-clause-own
-returns-then-begins_its-clause-own c =
-    sym (append-nil c.push.new.self.items)
-    ∙ pushed _ _ _ [] _ _ c.in_ok-push.ensures.items
-    (ap (λ (p : Numbers). p.own) (parted_first c.args.starter.0 c.loop-note.left.now c.in-Some.earlier.now c.in-Some.note.now c.in-Some.ensures.cases.0 (sym c.begins_its.ensures ∙ c.if-begins_its.true)))
-    c.loop-note.invariant.own
+returns-then-begins_its-clause-own c = grind (arith, common_steps, append-nil, parted_first, pushed)
 
 pub returns-then-begins_its-clause-others : goal.returns-then-begins_its-clause-others
 returns-then-begins_its-clause-others c =
@@ -20,47 +17,16 @@ returns-then-begins_its-clause-others c =
     ∙ c.loop-note.invariant.others
 
 pub returns-then-begins_its-clause-silent : goal.returns-then-begins_its-clause-silent
-returns-then-begins_its-clause-silent c =
-    and_true _ _ _
-    (silent_first c.args.starter.0 c.loop-note.left.now c.in-Some.earlier.now c.in-Some.note.now c.in-Some.ensures.cases.0 (sym c.begins_its.ensures ∙ c.if-begins_its.true))
-    c.loop-note.invariant.silent
+returns-then-begins_its-clause-silent c = grind (arith, common_steps, and_true, silent_first)
 
 pub loop-note-preserved-then-parted : goal.loop-note-preserved-then-parted
-loop-note-preserved-then-parted c = record {
-  own = pushed _ _ _ _ _ _ c.in_ok-push-2.ensures.items
-      (ap (λ (p : Numbers). p.own) (parted_own c.args.starter.0 c.loop-note.left.now c.in-Some.earlier.now c.in-Some.note.now c.in-Some.ensures.cases.0 (sym c.begins_its.ensures ∙ c.if-begins_its.false) (sym c.is_by.ensures ∙ c.if-is_by.true)))
-      c.loop-note.invariant.own;
-  others = ap (λ (p : Numbers). c.loop-note.parted.others.items ++ p.others)
-      (sym (parted_own c.args.starter.0 c.loop-note.left.now c.in-Some.earlier.now c.in-Some.note.now c.in-Some.ensures.cases.0 (sym c.begins_its.ensures ∙ c.if-begins_its.false) (sym c.is_by.ensures ∙ c.if-is_by.true)))
-      ∙ c.loop-note.invariant.others;
-  silent = and_more _ _ _ _ c.if-parted.true
-      (silent_own c.args.starter.0 c.loop-note.left.now c.in-Some.earlier.now c.in-Some.note.now c.in-Some.ensures.cases.0 (sym c.begins_its.ensures ∙ c.if-begins_its.false) (sym c.is_by.ensures ∙ c.if-is_by.true))
-      c.loop-note.invariant.silent;
-}
+loop-note-preserved-then-parted c = grind (arith, common_steps, and_more, parted_own, pushed, silent_own)
 
 pub loop-note-preserved-else-parted : goal.loop-note-preserved-else-parted
-loop-note-preserved-else-parted c = record {
-  own = pushed _ _ _ _ _ _ c.in_ok-push-2.ensures.items
-      (ap (λ (p : Numbers). p.own) (parted_own c.args.starter.0 c.loop-note.left.now c.in-Some.earlier.now c.in-Some.note.now c.in-Some.ensures.cases.0 (sym c.begins_its.ensures ∙ c.if-begins_its.false) (sym c.is_by.ensures ∙ c.if-is_by.true)))
-      c.loop-note.invariant.own;
-  others = ap (λ (p : Numbers). c.loop-note.parted.others.items ++ p.others)
-      (sym (parted_own c.args.starter.0 c.loop-note.left.now c.in-Some.earlier.now c.in-Some.note.now c.in-Some.ensures.cases.0 (sym c.begins_its.ensures ∙ c.if-begins_its.false) (sym c.is_by.ensures ∙ c.if-is_by.true)))
-      ∙ c.loop-note.invariant.others;
-  silent = and_past _ _ _ _ c.if-parted.false c.loop-note.invariant.silent;
-}
+loop-note-preserved-else-parted c = grind (arith, common_steps, and_past, parted_own, pushed)
 
 pub loop-note-preserved : goal.loop-note-preserved
-loop-note-preserved c = record {
-  own = ap (λ (p : Numbers). c.loop-note.parted.own.items ++ p.own)
-      (sym (parted_other c.args.starter.0 c.loop-note.left.now c.in-Some.earlier.now c.in-Some.note.now c.in-Some.ensures.cases.0 (sym c.begins_its.ensures ∙ c.if-begins_its.false) (sym c.is_by.ensures ∙ c.if-is_by.false)))
-      ∙ c.loop-note.invariant.own;
-  others = pushed _ _ _ _ _ _ c.in_ok-push-3.ensures.items
-      (ap (λ (p : Numbers). p.others) (parted_other c.args.starter.0 c.loop-note.left.now c.in-Some.earlier.now c.in-Some.note.now c.in-Some.ensures.cases.0 (sym c.begins_its.ensures ∙ c.if-begins_its.false) (sym c.is_by.ensures ∙ c.if-is_by.false)))
-      c.loop-note.invariant.others;
-  silent = ap (λ (b : Bool). c.loop-note.parted.silent && b)
-      (sym (silent_other c.args.starter.0 c.loop-note.left.now c.in-Some.earlier.now c.in-Some.note.now c.in-Some.ensures.cases.0 (sym c.begins_its.ensures ∙ c.if-begins_its.false) (sym c.is_by.ensures ∙ c.if-is_by.false)))
-      ∙ c.loop-note.invariant.silent;
-}
+loop-note-preserved c = grind (arith, common_steps, parted_other, pushed, silent_other)
 
 pub returns-clause-own : goal.returns-clause-own
 returns-clause-own c = unpushed _ _ _ (ap (λ (p : Numbers). p.own) (parted_none c.args.starter.0 c.loop-note.left.now (search rules))) c.loop-note.invariant.own

@@ -1,10 +1,11 @@
-use Rattle.std.proofs.Common.{◌≡◌, ◌+◌, ◌<◌, ◌∙◌, ℕ, Option, ap, subst, sym}
+use Rattle.std.proofs.Common.{◌≡◌, ◌+◌, ◌∙◌, ℕ, Option, ap, subst, sym, arith}
 use Rattle.tx_base.specs.declared.marks.Mark.{Mark}
 use Rattle.tx_journal.proofs.OwnMarks.{all_copied, none_added, none_copied, one_copied, AreCopied}
 use Rattle.tx_journal.proofs.Reaching.{none_at_zero, none_beyond}
 use Rattle.tx_journal.specs.Reach.{own_mark}
 use Rattle.tx_live.specs.Content.{view_of}
 use Rattle.tx_journal.proofs.reach.own_marks.Goals.{in-Some, in_default}
+use Rattle.std.proofs.lemmas.Grind.{common_steps}
 use Rattle.tx_journal.proofs.reach.own_marks.Goals as goal
 
 pub loop-done-init : goal.loop-done-init
@@ -27,6 +28,4 @@ loop-done-preserved c =
     ]
 
 pub returns : goal.returns
-returns c =
-    all_copied (view_of c.args.machine.now).table.marks c.processes-width.result c.args.starter.0 c.loop-done.own c.loop-done.done c.loop-done.invariant c.loop-done-test.false
-    (λ n beyond. none_beyond c.args.machine.now n (subst (λ (width : ℕ). width < n) c.processes-width.ensures.table beyond))
+returns c = grind (arith, common_steps, all_copied, none_beyond)

@@ -1,4 +1,4 @@
-use Rattle.std.proofs.Common.{◌≡◌, ℕ, ◌+◌, ◌<◌, length, Option, option_map, reverse, take, get_or, arith, refl, sym, ap, subst, ◌∙◌}
+use Rattle.std.proofs.Common.{◌≡◌, ℕ, ◌+◌, ◌<◌, length, Option, option_map, reverse, take, get_or, arith, sym, ap, subst, ◌∙◌}
 use Rattle.tx_journal.proofs.Newest.{none_newer, one_newer, there}
 use Rattle.tx_journal.specs.Since.{newest_first, numbered}
 use Rattle.tx_journal.specs.Entries.{history_of}
@@ -6,11 +6,12 @@ use Rattle.tx_journal.specs.declared.entry.Entry.{Entry}
 use Rattle.tx_journal.specs.declared.since.Touch.{Touch}
 use Rattle.tx_reserve.specs.Objects.{object_of}
 use Rattle.tx_journal.proofs.since.newest_first.Goals.{then-comes_first_at, else-comes_first_at}
+use Rattle.std.proofs.lemmas.Grind.{common_steps}
 use Rattle.tx_journal.proofs.since.newest_first.Goals as goal
 
 pub loop-place-init : goal.loop-place-init
 unfolding newest_first
-loop-place-init c = refl
+loop-place-init c = grind (arith, common_steps)
 
 pub loop-place-preserved : goal.loop-place-preserved
 loop-place-preserved c =

@@ -1,7 +1,8 @@
-use Rattle.std.proofs.Common.{[], ◌∷◌, ◌++◌, refl, ap, ◌∙◌}
+use Rattle.std.proofs.Common.{refl, ap, ◌∙◌, arith}
 use Rattle.tx_live.specs.declared.crossing.Crossing.TheVariants.{By}
 use Rattle.tx_journal.proofs.Turned.{more_inverses, more_parted, more_undone}
 use Rattle.tx_journal.specs.Crossings.{Crossed}
+use Rattle.std.proofs.lemmas.Grind.{common_steps}
 use Rattle.tx_journal.proofs.crossings.Crossings.push.Goals as goal
 
 pub invariant_of-self : goal.invariant_of-self
@@ -10,12 +11,7 @@ invariant_of-self c =
     more_parted c.self.inside.places.items c.self.inside.made c.self.invariant c.push_reserved.new.self.items (By c.args.inverse) c.args.inverse none refl c.push_reserved.ensures.items
 
 pub returns-clause-inverses : goal.returns-clause-inverses
-returns-clause-inverses c =
-    let none = ap (λ (crossed : Crossed). crossed.undone) c.self.view_is ∙ c.requires.none in
-    more_inverses c.self.inside.places.items c.self.inside.made c.self.invariant c.push_reserved.new.self.items (By c.args.inverse) c.args.inverse none refl c.push_reserved.ensures.items
-    ∙ ap (λ (crossed : Crossed). crossed.inverses ++ c.args.inverse ∷ []) c.self.view_is
+returns-clause-inverses c = grind (arith, common_steps, more_inverses)
 
 pub returns-clause-undone : goal.returns-clause-undone
-returns-clause-undone c =
-    let none = ap (λ (crossed : Crossed). crossed.undone) c.self.view_is ∙ c.requires.none in
-    more_undone c.self.inside.places.items c.self.inside.made c.self.invariant c.push_reserved.new.self.items (By c.args.inverse) c.args.inverse none refl c.push_reserved.ensures.items
+returns-clause-undone c = grind (arith, common_steps, more_undone)

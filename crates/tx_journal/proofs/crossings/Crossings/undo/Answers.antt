@@ -1,10 +1,11 @@
-use Rattle.std.proofs.Common.{◌≢◌, ◌-◌, [], sym, ap, subst, ◌∙◌}
+use Rattle.std.proofs.Common.{◌≢◌, ◌-◌, [], sym, ap, subst, ◌∙◌, arith}
 use Rattle.std.specs.Prelude.{vec_capacity}
 use Rattle.tx_core.specs.Undo.{LeadsBack}
 use Rattle.tx_journal.proofs.Turned.{goes_undone, popped_back, popped_parted, popped_undone}
 use Rattle.tx_journal.specs.Crossings.{crossed_in, inverses_in, Crossed, GoesBack}
 use Rattle.tx_live.specs.CrossingFacts.{back_of, is_back}
 use Rattle.tx_live.specs.Crossings.{inverse_at}
+use Rattle.std.proofs.lemmas.Grind.{common_steps}
 use Rattle.tx_journal.proofs.crossings.Crossings.undo.Goals as goal
 
 pub unreachable-requires-in_default-crossing : goal.unreachable-requires-in_default-crossing
@@ -25,10 +26,7 @@ undo-requires c =
     (LeadsBack c.args.machine.now) (λ rest i parts. c.requires.leads rest i (sym (ap (λ (crossed : Crossed). crossed.inverses) c.self.view_is) ∙ parts)))
 
 pub invariant_of-self : goal.invariant_of-self
-invariant_of-self c =
-    let none = ap (λ (crossed : Crossed). crossed.undone) c.self.view_is ∙ c.requires.none in
-    let some : inverses_in c.self.inside.places.items c.self.inside.made ≢ [] = λ empty. c.requires.some (sym (ap (λ (crossed : Crossed). crossed.inverses) c.self.view_is) ∙ empty) in
-    popped_parted c.self.inside.places.items c.self.inside.made c.self.invariant c.pop.new.self.items c.in-Some.crossing none c.in-Some.ensures.items some
+invariant_of-self c = grind (arith, common_steps, popped_parted)
 
 pub returns-clause-back : goal.returns-clause-back
 returns-clause-back c = λ rest i parts.
@@ -40,7 +38,4 @@ returns-clause-back c = λ rest i parts.
     rest i (ap (λ (crossed : Crossed). crossed.inverses) c.self.view_is ∙ parts))
 
 pub returns-clause-none : goal.returns-clause-none
-returns-clause-none c =
-    let none = ap (λ (crossed : Crossed). crossed.undone) c.self.view_is ∙ c.requires.none in
-    let some : inverses_in c.self.inside.places.items c.self.inside.made ≢ [] = λ empty. c.requires.some (sym (ap (λ (crossed : Crossed). crossed.inverses) c.self.view_is) ∙ empty) in
-    popped_undone c.self.inside.places.items c.self.inside.made c.self.invariant c.pop.new.self.items c.in-Some.crossing none c.in-Some.ensures.items some
+returns-clause-none c = grind (arith, common_steps, popped_undone)

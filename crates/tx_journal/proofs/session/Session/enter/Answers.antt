@@ -1,16 +1,15 @@
-use Rattle.std.proofs.Common.{sym, subst}
+use Rattle.std.proofs.Common.{sym, subst, arith}
 use Rattle.tx_journal.proofs.Aheads.{none_after, none_at_end, nothing_ahead}
 use Rattle.tx_journal.proofs.Kept.{counted_now, kept_after, sound_now}
 use Rattle.tx_journal.specs.Sessions.{session_state, IsAtEnd}
+use Rattle.std.proofs.lemmas.Grind.{common_steps}
 use Rattle.tx_journal.proofs.session.Session.enter.Goals as goal
 
 pub record-made-requires-clause-sound : goal.record-made-requires-clause-sound
-record-made-requires-clause-sound c =
-    sound_now c.laws.ensures c.self.inside.machine c.self.inside.journal c.self.inside.width c.self.inside.count (c.self.invariant.0, c.self.invariant.1) (subst IsAtEnd (sym c.self.view_is) c.requires)
+record-made-requires-clause-sound c = grind (arith, common_steps, sound_now)
 
 pub record-made-requires-clause-counted : goal.record-made-requires-clause-counted
-record-made-requires-clause-counted c =
-    counted_now c.laws.ensures c.self.inside.machine c.self.inside.journal c.self.inside.width c.self.inside.count (c.self.invariant.0, c.self.invariant.1) (subst IsAtEnd (sym c.self.view_is) c.requires)
+record-made-requires-clause-counted c = grind (arith, common_steps, counted_now)
 
 pub record-made-requires-clause-none : goal.record-made-requires-clause-none
 record-made-requires-clause-none c =

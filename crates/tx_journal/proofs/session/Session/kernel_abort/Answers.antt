@@ -1,4 +1,4 @@
-use Rattle.std.proofs.Common.{sym, subst}
+use Rattle.std.proofs.Common.{sym, subst, arith}
 use Rattle.tx_base.specs.declared.steps.Reply.TheVariants.{Aborted}
 use Rattle.tx_base.specs.declared.steps.Step.TheVariants.{KernelAbort}
 use Rattle.tx_journal.proofs.Aheads.{none_answered, none_at_end, nothing_ahead}
@@ -6,15 +6,14 @@ use Rattle.tx_journal.proofs.Kept.{counted_now, kept_answered, sound_now}
 use Rattle.tx_journal.specs.Sessions.{session_state, IsAtEnd}
 use Rattle.tx_live.specs.Content.{view_of}
 use Rattle.tx_model.specs.View.{kernel_status}
+use Rattle.std.proofs.lemmas.Grind.{common_steps}
 use Rattle.tx_journal.proofs.session.Session.kernel_abort.Goals as goal
 
 pub abort-requires-clause-sound : goal.abort-requires-clause-sound
-abort-requires-clause-sound c =
-    sound_now c.laws.ensures c.self.inside.machine c.self.inside.journal c.self.inside.width c.self.inside.count (c.self.invariant.0, c.self.invariant.1) (subst IsAtEnd (sym c.self.view_is) c.requires)
+abort-requires-clause-sound c = grind (arith, common_steps, sound_now)
 
 pub abort-requires-clause-counted : goal.abort-requires-clause-counted
-abort-requires-clause-counted c =
-    counted_now c.laws.ensures c.self.inside.machine c.self.inside.journal c.self.inside.width c.self.inside.count (c.self.invariant.0, c.self.invariant.1) (subst IsAtEnd (sym c.self.view_is) c.requires)
+abort-requires-clause-counted c = grind (arith, common_steps, counted_now)
 
 pub abort-requires-clause-none : goal.abort-requires-clause-none
 abort-requires-clause-none c =

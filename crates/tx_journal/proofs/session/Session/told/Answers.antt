@@ -1,11 +1,9 @@
 use Rattle.std.proofs.Common.{◌≡◌, ◌≤◌, Bool, not, ◌&&◌, List, length, take, sym, ap, subst, ◌∙◌, arith, inl, inr}
 use Rattle.tx_journal.proofs.Noting.{lawful_first}
 use Rattle.tx_journal.proofs.Telling.{front, told_commit, told_empty, told_other}
-use Rattle.tx_journal.specs.Entries.{history_of}
-use Rattle.tx_journal.specs.Sessions.{SessionState, start_of}
+use Rattle.tx_journal.specs.Sessions.{SessionState}
 use Rattle.tx_journal.specs.declared.entry.Entry.{Entry}
-use Rattle.tx_model.specs.Answer.{Lawful}
-use Rattle.tx_model.specs.State.{boot_state}
+use Rattle.std.proofs.lemmas.Grind.{common_steps}
 use Rattle.tx_journal.proofs.session.Session.told.Goals as goal
 use Rattle.tx_journal.proofs.session.Session.told.Goals.{then-not-last, else-not-last}
 
@@ -13,27 +11,13 @@ pub notes_of-requires-clause-wide : goal.notes_of-requires-clause-wide
 notes_of-requires-clause-wide c = elim c.processes.ensures.width [ inl narrow ↦ omega (arith, narrow) | inr wide ↦ omega (arith, wide) ]
 
 pub notes_of-requires-clause-lawful : goal.notes_of-requires-clause-lawful
-notes_of-requires-clause-lawful c =
-    let here : c.as_slice.result.now ≡ c.args.self.now.entries = c.as_slice.ensures.value ∙ ap (λ (k : SessionState). k.entries) c.self.view_is in
-    let first : c.in-Some.entries.now ≡ take c.args.number c.args.self.now.entries = c.in-Some.ensures.lookup.0.2 ∙ front c.args.number c.as_slice.result.now ∙ ap (take c.args.number) here in
-    let same : boot_state c.processes.result c.count.result ≡ start_of c.args.self.now = λ j. boot_state (c.processes.ensures.same j) (c.count.ensures j) in
-    lawful_first (start_of c.args.self.now) (boot_state c.processes.result c.count.result) c.args.self.now.entries c.in-Some.entries.now c.args.number same first
-    (subst (λ (k : SessionState). Lawful (start_of k) (history_of k.entries)) c.self.view_is c.self.invariant.0.lawful)
+notes_of-requires-clause-lawful c = grind (arith, common_steps, front, lawful_first)
 
 pub returns-in_default-split_last : goal.returns-in_default-split_last
-returns-in_default-split_last c =
-    let here : c.as_slice.result.now ≡ c.args.self.now.entries = c.as_slice.ensures.value ∙ ap (λ (k : SessionState). k.entries) c.self.view_is in
-    told_empty c.args.self.now c.args.number (subst (λ (es : List Entry). c.args.number ≤ length es) here c.in-Some.ensures.lookup.0.1) c.processes.result c.count.result c.processes.ensures.same c.count.ensures c.in-Some.entries.now
-    (c.in-Some.ensures.lookup.0.2 ∙ front c.args.number c.as_slice.result.now ∙ ap (take c.args.number) here) c.in_ok-notes.notes.items c.in_ok-notes.ensures
-    (ap length (sym c.deref.ensures.value) ∙ c.in_default-split_last.ensures.cases)
+returns-in_default-split_last c = grind (arith, common_steps, front, told_empty)
 
 pub returns-in_default-commit_of : goal.returns-in_default-commit_of
-returns-in_default-commit_of c =
-    let here : c.as_slice.result.now ≡ c.args.self.now.entries = c.as_slice.ensures.value ∙ ap (λ (k : SessionState). k.entries) c.self.view_is in
-    told_other c.args.self.now c.args.number (subst (λ (es : List Entry). c.args.number ≤ length es) here c.in-Some.ensures.lookup.0.1) c.processes.result c.count.result c.processes.ensures.same c.count.ensures c.in-Some.entries.now
-    (c.in-Some.ensures.lookup.0.2 ∙ front c.args.number c.as_slice.result.now ∙ ap (take c.args.number) here) c.in_ok-notes.notes.items c.in_ok-notes.ensures
-    c.in-Some-split_last.earlier.now c.in-Some-split_last.last.now (sym c.deref.ensures.value ∙ c.in-Some-split_last.ensures.cases.0)
-    c.in_default-commit_of.ensures
+returns-in_default-commit_of c = grind (arith, common_steps, front, told_other)
 
 pub returns : goal.returns
 returns c =
