@@ -14,14 +14,11 @@ use Rattle.tx_laws.specs.TwoStates.{states_view}
 use Rattle.tx_live.specs.Content.{view_of}
 use Rattle.tx_live.specs.declared.content.Content.{Content}
 use Rattle.tx_model.specs.Events.{process_of}
-use Rattle.tx_model.specs.Membership.{Aborting, Progress, Forks, Begins, Role, Within, Table, is_live, is_of, marks_after, parked_mark, role, table_after, mark_unless_of}
+use Rattle.tx_model.specs.Membership.{Aborting, Progress, Forks, Begins, Role, Within, Table, is_live, is_of, marks_after, role, table_after, mark_unless_of}
 use Rattle.tx_model.specs.Words.{kind_role}
 use Rattle.tx_model.specs.State.{is_between}
 use Rattle.tx_step.specs.Steps.{IsXabort}
 use Rattle.tx_model.specs.View.{View, event_on, first_reply, next, role_on}
-
-pub parked_as : (n : ℕ) (mark : Option Mark) → is_of n (parked_mark mark) ≡ is_of n mark
-parked_as n mark = grind arith
 
 -- in each role but that of an end, no more are live then but the starter that begins
 role_less : (r : Role) (p : ℕ) (t : Table) (s : ℕ) → ((u : ℕ) (defers : Bool) → r ≡ Within u (Begins defers) → u ≡ s) → ((u c : ℕ) → r ≡ Within u (Forks c) → u ≡ s) → LessBut s (table_after r p t) t

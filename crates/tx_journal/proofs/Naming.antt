@@ -6,11 +6,11 @@ use Rattle.std.proofs.lemmas.Option.{slice_get_cases}
 use Rattle.tx_base.specs.declared.steps.Accepted.{Accepted}
 use Rattle.tx_journal.proofs.Walked.{history_length, history_to}
 use Rattle.tx_journal.specs.Entries.{accepted_of, entry_at, history_of}
-use Rattle.tx_journal.specs.Moved.{IsMoved, Numbers, Told, entries_named, moved_at, moved_numbers, numbers_above, numbers_parted, told_by, told_in, told_of, with_other_number, with_own_number}
+use Rattle.tx_journal.specs.Moved.{IsMoved, Numbers, Told, entries_named, moved_at, moved_numbers, numbers_above, numbers_parted, told_by, told_in, told_of}
 use Rattle.tx_journal.specs.Sessions.{SessionState, start_of}
 use Rattle.tx_journal.specs.declared.entry.Entry.{Entry}
 use Rattle.tx_journal.specs.declared.moved.Moved.{Moved}
-use Rattle.tx_laws.specs.OneMoment.{Parted, begins_it, is_step_of, is_one_moment, moved_history, parted, with_other, with_own}
+use Rattle.tx_laws.specs.OneMoment.{Parted, is_one_moment, moved_history, parted}
 use Rattle.tx_model.specs.History.{role_in}
 use Rattle.tx_model.specs.Membership.{Role, Outside, Within, Commits, Aborts}
 use Rattle.tx_model.specs.State.{State}
@@ -45,19 +45,7 @@ record AreNamed (name : ℕ → Option Accepted) (n : Numbers) (p : Parted) : Ty
 parts_named : (name : ℕ → Option Accepted) (S : State) (s : ℕ) (h : List Accepted) → Names name h → AreNamed name (numbers_parted S s h) (parted S s h)
 unfolding Names numbers_parted parted
 parts_named name S s [] are = record { own = refl; others = refl }
-parts_named name S s (e ∷ h) are = begins (parts_named name S s h are.1) (begins_it s (role_in S e h))
-  where
-    its : AreNamed name (numbers_parted S s h) (parted S s h) → (own : Bool) →
-        AreNamed name (if own then with_own_number (suc (length h)) (numbers_parted S s h) else with_other_number (suc (length h)) (numbers_parted S s h)) (if own then with_own e (parted S s h) else with_other e (parted S s h))
-    its before true = record { own = λ j. are.0 j ∷ before.own j; others = before.others }
-    its before false = record { own = before.own; others = λ j. are.0 j ∷ before.others j }
-
-    begins : AreNamed name (numbers_parted S s h) (parted S s h) → (first : Bool) → AreNamed name
-        (if first then record { own = suc (length h) ∷ []; others = numbers_above 0 (length h) }
-        else (if is_step_of s (role_in S e h) then with_own_number (suc (length h)) (numbers_parted S s h) else with_other_number (suc (length h)) (numbers_parted S s h)))
-        (if first then record { own = e ∷ []; others = h } else (if is_step_of s (role_in S e h) then with_own e (parted S s h) else with_other e (parted S s h)))
-    begins before true = record { own = λ j. are.0 j ∷ []; others = all_named name h are.1 }
-    begins before false = its before (is_step_of s (role_in S e h))
+parts_named name S s (e ∷ h) are = grind (arith, all_named, parts_named name S s h)
 
 moved_named : (name : ℕ → Option Accepted) (S : State) (s : ℕ) (later : List Accepted) (e : Accepted) (h : List Accepted) → Names name (later ++ e ∷ h) →
     map name (moved_numbers S s later h) ≡ map Some (moved_history S s later e h)

@@ -1,17 +1,16 @@
 -- What notes tell of a history is what the history tells.
-use Rattle.std.proofs.Common.{◌≡◌, ℕ, suc, get_or, subst, ◌+◌, ◌-◌, ◌<◌, ◌≤◌, Bool, true, false, not, ◌&&◌, List, [], ◌∷◌, ◌++◌, Option, None, length, option_map, take, drop, nat_lt, if◌then◌else◌, arith, refl, sym, ap, ◌∙◌, eqb-true, le-ltb, length-append}
+use Rattle.std.proofs.Common.{◌≡◌, ℕ, suc, get_or, subst, ◌+◌, ◌-◌, ◌<◌, ◌≤◌, true, false, ◌&&◌, List, [], ◌∷◌, ◌++◌, Option, None, length, option_map, take, drop, nat_lt, if◌then◌else◌, arith, refl, sym, ap, ◌∙◌, eqb-true, le-ltb, length-append}
 use Rattle.std.proofs.Math.Seq.{drop-append_seam, take-append_seam}
 use Rattle.std.proofs.lemmas.List.{length-take-le}
 use Rattle.tx_base.specs.declared.steps.Accepted.{Accepted}
 use Rattle.tx_journal.proofs.Parting.{back_more}
 use Rattle.tx_journal.proofs.Walked.{history_length, history_parts, history_to, lawful_to}
 use Rattle.tx_journal.specs.Entries.{accepted_of, history_of}
-use Rattle.tx_journal.specs.Moved.{moved_at, numbers_above, numbers_parted, told_by, told_of, with_other_number, with_own_number}
+use Rattle.tx_journal.specs.Moved.{moved_at, numbers_parted, told_by, told_of}
 use Rattle.tx_journal.specs.Noted.{commit_of, is_silent_by, is_starter, noted_back, notes_in, parted_by, told_with}
 use Rattle.tx_journal.specs.declared.entry.Entry.{Entry}
 use Rattle.tx_laws.specs.OneMoment.{begins_it, is_silent, is_step_of, tells_moment}
 use Rattle.tx_model.specs.Answer.{Lawful}
-use Rattle.tx_model.specs.History.{role_in}
 use Rattle.tx_model.specs.Membership.{Role}
 use Rattle.tx_model.specs.State.{State}
 use Rattle.tx_journal.specs.Notes.{IsNoteOf, Noted, begins_one, commits_one, starter_by, tells_of}
@@ -35,23 +34,12 @@ notes_length S (e ∷ h) = ap suc (notes_length S h)
 parted_same : (S : State) (s : ℕ) (h : List Accepted) → parted_by s (notes_in S h) ≡ numbers_parted S s h
 unfolding notes_in parted_by numbers_parted
 parted_same S s [] = refl
-parted_same S s (e ∷ h) =
-    λ j. if begins_same s (role_in S e h) j then record { own = suc (notes_length S h j) ∷ []; others = numbers_above 0 (notes_length S h j) }
-    else (if own_same s (role_in S e h) j then with_own_number (suc (notes_length S h j)) (parted_same S s h j) else with_other_number (suc (notes_length S h j)) (parted_same S s h j))
-
--- what is chosen only where the step is of the transaction
-chosen : (own own_too a b rest : Bool) → own ≡ own_too → (own ≡ true → a ≡ b) → (if own then not a && rest else rest) ≡ (if own_too then not b && rest else rest)
-chosen own own_too a b rest same is = grind arith
+parted_same S s (e ∷ h) = grind (arith, begins_same, own_same, notes_length, parted_same S s h)
 
 silent_same : (S : State) (s : ℕ) (h : List Accepted) → is_silent_by s (notes_in S h) ≡ is_silent S s h
 unfolding notes_in is_silent_by is_silent
 silent_same S s [] = refl
-silent_same S s (e ∷ h) =
-    (λ j. if begins_same s (role_in S e h) j then true
-    else (if is_starter s (starter_by (role_in S e h)) then not (tells_of (starter_by (role_in S e h)) S e h) && silent_same S s h j else silent_same S s h j))
-    ∙ ap (λ (b : Bool). if begins_it s (role_in S e h) then true else b)
-    (chosen (is_starter s (starter_by (role_in S e h))) (is_step_of s (role_in S e h)) (tells_of (starter_by (role_in S e h)) S e h) (tells_moment S s e h) (is_silent S s h) (own_same s (role_in S e h))
-    (tells_same S s e h (starter_by (role_in S e h))))
+silent_same S s (e ∷ h) = grind (arith, begins_same, own_same, tells_same, silent_same S s h)
 
 -- what is told of a step
 told_in_role : (S : State) (later : List Accepted) (e : Accepted) (h : List Accepted) (r : Role) →

@@ -1,6 +1,5 @@
 -- The places of what leads over the entries of a session.
-use Rattle.std.proofs.Common.{◌≡◌, ℕ, ◌+◌, ◌-◌, ◌≤◌, ◌≢◌, List, [], ◌∷◌, ◌++◌, length, length-append, map, filter_map, reverse, take, drop, set, get_or, Option, Some, None, arith, refl, sym, ap, ◌∙◌}
-use Rattle.std.specs.List.{cons_option}
+use Rattle.std.proofs.Common.{◌≡◌, ℕ, ◌+◌, ◌-◌, ◌≤◌, ◌≢◌, List, [], ◌∷◌, ◌++◌, length, length-append, map, filter_map, reverse, take, drop, set, get_or, Option, Some, arith, refl, sym, ap, ◌∙◌}
 use Rattle.std.proofs.lemmas.List.{append-nil, append_assoc, length-map, length-drop, length-take-le, map-append, reverse-append, reverse-reverse, take-append-drop}
 use Rattle.std.proofs.Math.Seq.{drop-append_seam, get_or-append_seam, set-append_seam, take-append_seam}
 use Rattle.tx_journal.specs.Crossings.{inverses_in, undone_in, IsParted}
@@ -36,29 +35,16 @@ module _ {A : Type 0} (at : Crossing → Option A) where
   led [] [] lead = refl
   led [] (x ∷ xs) lead = absurd (let none : [] ≡ Some x ∷ map Some xs = lead in cc)
   led (c ∷ cs) [] lead = absurd (let none : at c ∷ map at cs ≡ [] = lead in cc)
-  led (c ∷ cs) (x ∷ xs) lead =
-      let all : at c ∷ map at cs ≡ Some x ∷ map Some xs = lead in
-      let first : at c ≡ Some x = cc in
-      let rest : map at cs ≡ map Some xs = cc in
-      rw (first) (ap (λ (ys : List A). x ∷ ys) (led cs xs rest))
+  led (c ∷ cs) (x ∷ xs) lead = grind (arith, led cs xs)
 
   fewer : (cs : List Crossing) → length (filter_map at cs) ≤ length cs
   fewer [] = omega arith
-  fewer (c ∷ cs) = by (at c) (fewer cs)
-    where
-      by : (one : Option A) → length (filter_map at cs) ≤ length cs → length (cons_option one (filter_map at cs)) ≤ length (c ∷ cs)
-      by None rest = omega (arith, rest)
-      by (Some x) rest = omega (arith, rest)
+  fewer (c ∷ cs) = grind (arith, fewer cs)
 
   -- where as many lead there as there are, all do
   pub lead_all : (cs : List Crossing) → length (filter_map at cs) ≡ length cs → Lead cs (filter_map at cs)
   lead_all [] all = refl
-  lead_all (c ∷ cs) all = by (at c) all (lead_all cs)
-    where
-      by : (one : Option A) → length (cons_option one (filter_map at cs)) ≡ length (c ∷ cs) → (length (filter_map at cs) ≡ length cs → Lead cs (filter_map at cs)) →
-          one ∷ map at cs ≡ map Some (cons_option one (filter_map at cs))
-      by None all rest = let few = fewer cs in absurd (omega (arith, all, few))
-      by (Some x) all rest = ap (λ (ys : List (Option A)). Some x ∷ ys) (rest (omega (arith, all)))
+  lead_all (c ∷ cs) all = grind (arith, fewer cs, lead_all cs)
 
   pub lead_none : (cs : List Crossing) → Lead cs [] → cs ≡ []
   lead_none [] lead = refl

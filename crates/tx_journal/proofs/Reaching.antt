@@ -1,5 +1,5 @@
 -- What is kept of what a step may change.
-use Rattle.std.proofs.Common.{◌≡◌, ◌≤◌, ◌<◌, ℕ, List, Option, Some, None, length, map, arith, refl, sym, ap, subst, ◌∙◌}
+use Rattle.std.proofs.Common.{◌≡◌, ◌<◌, ℕ, List, Option, None, length, map, arith, refl, sym, ap, subst, ◌∙◌}
 use Rattle.tx_base.specs.SlotFacts.{slot_there}
 use Rattle.tx_base.specs.Slots.{slot_at}
 use Rattle.tx_base.specs.declared.marks.Mark.{Mark}
@@ -27,11 +27,7 @@ use Rattle.tx_reserve.specs.declared.objects.Objects.{Objects}
 -- beyond the process numbers there is no mark
 pub none_beyond : (k : Content) (n : ℕ) → (view_of k).table.width < n → (view_of k).table.marks n ≡ None
 unfolding view_of states_view
-none_beyond k n beyond = by (slot_at k.marks n) refl
-  where
-    by : (mark : Option Mark) → slot_at k.marks n ≡ mark → mark ≡ None
-    by None is = refl
-    by (Some m) is = let within : (1 ≤ n) × (n ≤ length k.marks) = slot_there k.marks n m is in let high : n ≤ length k.marks = within.1 in absurd (omega (arith, beyond, high))
+none_beyond k n beyond = grind (arith, slot_there)
 
 pub none_at_zero : (k : Content) → (view_of k).table.marks 0 ≡ None
 unfolding view_of states_view
