@@ -16,7 +16,7 @@ mod process_lines;
 mod refusals;
 mod replies;
 mod sent;
-mod shell;
+pub mod shell;
 mod signal_lines;
 mod statuses;
 mod steps;

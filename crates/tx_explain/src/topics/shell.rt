@@ -2,7 +2,7 @@
 ghost use Rattle.std.specs.Prelude.{◌≡◌, map, IsTrue};
 ghost use Rattle.std.specs.List.{list_all};
 ghost use Rattle.tx_explain.specs.Table.{shell_rows};
-ghost use Rattle.tx_explain.specs.Topics.{is_formed, row_of};
+ghost use Rattle.tx_explain.specs.Topics.{is_formed, is_page, row_of};
 
 use crate::topic::Topic;
 
@@ -13,6 +13,38 @@ pub fn topics() -> &'static [Topic]
 {
     &TOPICS
 }
+
+/// What can be asked for in a session, line by line.
+pub fn session_page() -> &'static str
+    ensures { IsTrue (is_page result.now) }
+{
+    SESSION
+}
+
+const SESSION: &str = "\
+a step     as in a schedule, as 2 store 0 \"hi!\": it is made, and answered
+back       takes the newest step back that is made
+forward    makes the next step again
+goto K     goes to position K, the place after the first K steps
+goto end   goes to the place after all steps
+state      prints the state
+moved K    may the transaction that step K commits count as done at once?
+steps K L  lists steps K to L, and the position; steps K: from K on; steps: all
+text       prints the schedule of the steps up to the position, for txos replay
+try STEP   says what a step would be answered, and how the state would differ
+without S  says how the state would differ without the transaction of S
+why STEP   says why a step would be refused, what is in its way, and since
+           when, or what it waits for; why: of the step refused last
+owns S     says what the transaction of S has reserved; owns: what each has
+when PIECE goes back to the step that changed a piece of the state last
+next PIECE goes on to the step that changes it next
+PIECE is   proc P, page P N, fd P F, ids P, pending P, queue P, desc D, pipe Q,
+           or txn S
+cut        lets go of the steps after the position
+help WORD  says what a word of a step, a reply or a state means, as help N8
+?          prints this list, as help does
+quit       ends, as exit and the end of the input do
+";
 
 const TOPICS: [Topic; 11] = [
     Topic {
