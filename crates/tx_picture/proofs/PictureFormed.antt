@@ -13,7 +13,7 @@ use Rattle.tx_picture.specs.Layout.{words_left, x_of, y_of}
 use Rattle.tx_picture.specs.Pictures.{between, drawn_text, head_text, height_of, inner_text, legend_text, meanings_text, moved_text, picture_of, seen_text, size_text, style_text, width_of}
 use Rattle.tx_picture.specs.Steps.{label_text, line_text, mark_class, mark_text, row_text, rows_text, tie_text, tied_text, words_of}
 use Rattle.tx_picture.specs.Stretches.{bar_text, lane_text, last_row, strip_class, strip_text}
-use Rattle.tx_picture.specs.Svg.{attribute, numbered, shape_text, worded, words_text}
+use Rattle.tx_picture.specs.Svg.{attribute, numbered, shape_text, words_text}
 use Rattle.tx_picture.specs.Ties.{tie_of}
 use Rattle.tx_picture.specs.WellFormed.{AreAttributes, IsContent, IsValue, IsWellFormed, root, one, numeral, word, joined, nothing, holding, beside}
 use Rattle.tx_picture.specs.declared.elements.Shape.TheVariants.{Ellipse, Line, Rect}

@@ -1,11 +1,9 @@
 -- The answer to a text that was read, or what is told of one that was not.
-use Rattle.std.proofs.Common.{◌≡◌, ℕ, List, Result, Ok, Err, IfOk, IfErr, String, string_bytes, inl, sym, subst}
-use Rattle.tx_lines.specs.Schedule.{FaultsBy, IsFaultOf}
+use Rattle.std.proofs.Common.{◌≡◌, ℕ, List, Result, Ok, Err, IfOk, IfErr, String, string_bytes, sym, subst}
+use Rattle.tx_lines.specs.Schedule.{FaultsBy}
 use Rattle.tx_lines.specs.declared.faults.Fault.{Fault}
 use Rattle.tx_lines.specs.declared.faults.Fault.TheVariants.{NoMemory}
-use Rattle.tx_picture.specs.Grammars.{IsPictureFault}
 use Rattle.tx_plain.specs.Meant.{meant_of, IsOwnFault}
-use Rattle.tx_plain.specs.MeantFacts.{own_as}
 use Rattle.tx_script.specs.Grammars.{Grammar, AnswersText}
 
 -- where the only fault is want of memory
