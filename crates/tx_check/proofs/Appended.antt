@@ -8,37 +8,36 @@ use Rattle.tx_plain.specs.Meant.{own_line}
 use Rattle.tx_check.specs.Numbered.{line_at}
 use Rattle.tx_check.specs.Speaking.{line_sentence, FaultKind, IsOfKind, SpeaksAt}
 use Rattle.tx_check.specs.declared.trouble.LineTrouble.TheVariants.{TooLong}
-use Rattle.tx_check.specs.Told.{last_line, told_text, AreRising, IsAmong, IsColumn, IsInLine, IsTold, IsToldIn, IsWrongOwn, Tells, TellsFrom, TellsUpTo, Told}
-use Rattle.tx_check.specs.ToldKinds.{TellsOfKind}
+use Rattle.tx_check.specs.Told.{last_line, told_text, AreRising, IsAmong, IsColumn, IsInLine, IsTold, IsToldIn, IsWrongOwn, Tells, TellsFrom, TellsOfKind, TellsUpTo, Told}
 use Rattle.tx_plain.specs.OwnLines.{without_return}
 
-parts_append : (old a b c d e s n : List ℕ) → ((((((old ++ a) ++ b) ++ c) ++ d) ++ e) ++ s) ++ n ≡ old ++ ((a ++ (b ++ (c ++ (d ++ (e ++ s))))) ++ n)
-parts_append old a b c d e s n = simp append_assoc refl
+line_append : (a b c d e s : List ℕ) → (a ++ (b ++ (c ++ (d ++ (e ++ s))))) ++ 10 ∷ [] ≡ a ++ (b ++ (c ++ (d ++ (e ++ (s ++ 10 ∷ [])))))
+line_append a b c d e s = simp append_assoc refl
 
-parts_appended : (old a b c d e s n t1 t2 t3 t4 t5 t6 new : List ℕ) → t1 ≡ old ++ a → t2 ≡ t1 ++ b → t3 ≡ t2 ++ c → t4 ≡ t3 ++ d → t5 ≡ t4 ++ e → t6 ≡ t5 ++ s → new ≡ t6 ++ n →
-    new ≡ old ++ ((a ++ (b ++ (c ++ (d ++ (e ++ s))))) ++ n)
-parts_appended old a b c d e s n t1 t2 t3 t4 t5 t6 new e1 e2 e3 e4 e5 e6 e7 = rw (e7, e6, e5, e4, e3, e2, e1) (parts_append old a b c d e s n)
-
--- a line of what is told, part by part
-pub told_appended : {A E : Type 0} (result : Result A E) (number column : ℕ) (bytes old sentence t1 t2 t3 t4 t5 t6 new : List ℕ) → IsColumn bytes column → IsInLine sentence → SpeaksAt bytes column sentence → (512 < length (without_return bytes) → sentence ≡ line_sentence TooLong) → t1 ≡ old ++ codes "line " → t2 ≡ t1 ++ decimal number
-    → t3 ≡ t2 ++ codes ", column " → t4 ≡ t3 ++ decimal column → t5 ≡ t4 ++ codes ": " → t6 ≡ t5 ++ sentence → OnOk result (new ≡ t6 ++ codes "\n") → OnOk result (Tells number bytes old new)
-told_appended (Ok value) number column bytes old sentence t1 t2 t3 t4 t5 t6 new some in_line speaks long e1 e2 e3 e4 e5 e6 e7 = record {
+-- a line of what is told
+tells_line : (number column : ℕ) (bytes old sentence new : List ℕ) → IsColumn bytes column → IsInLine sentence → SpeaksAt bytes column sentence → (512 < length (without_return bytes) → sentence ≡ line_sentence TooLong)
+    → new ≡ old ++ (codes "line " ++ (decimal number ++ (codes ", column " ++ (decimal column ++ (codes ": " ++ (sentence ++ 10 ∷ [])))))) → Tells number bytes old new
+tells_line number column bytes old sentence new inside in_line speaks long spelled = record {
   told = record { line = number; column = column; sentence = sentence };
   at = refl;
-  good = record { column = some; in_line = in_line; speaks = speaks; long = long };
-  more = parts_appended old (codes "line ") (decimal number) (codes ", column ") (decimal column) (codes ": ") sentence (codes "\n") t1 t2 t3 t4 t5 t6 new e1 e2 e3 e4 e5 e6 e7;
+  good = record { column = inside; in_line = in_line; speaks = speaks; long = long };
+  more = spelled ∙ ap (λ (t : List ℕ). old ++ t) (sym (line_append (codes "line ") (decimal number) (codes ", column ") (decimal column) (codes ": ") sentence));
 }
-told_appended (Err error) number column bytes old sentence t1 t2 t3 t4 t5 t6 new some in_line speaks long e1 e2 e3 e4 e5 e6 e7 = tt
+
+pub told_appended : {A E : Type 0} (result : Result A E) (number column : ℕ) (bytes old sentence new : List ℕ) → IsColumn bytes column → IsInLine sentence → SpeaksAt bytes column sentence → (512 < length (without_return bytes) → sentence ≡ line_sentence TooLong)
+    → OnOk result (new ≡ old ++ (codes "line " ++ (decimal number ++ (codes ", column " ++ (decimal column ++ (codes ": " ++ (sentence ++ 10 ∷ []))))))) → OnOk result (Tells number bytes old new)
+told_appended (Ok value) number column bytes old sentence new inside in_line speaks long spelled = tells_line number column bytes old sentence new inside in_line speaks long spelled
+told_appended (Err error) number column bytes old sentence new inside in_line speaks long spelled = tt
 
 -- and it is of the kind of its sentence
-pub kind_appended : {A E : Type 0} (result : Result A E) (number column : ℕ) (bytes old sentence t1 t2 t3 t4 t5 t6 new : List ℕ) → IsColumn bytes column → IsInLine sentence → SpeaksAt bytes column sentence → (512 < length (without_return bytes) → sentence ≡ line_sentence TooLong) → t1 ≡ old ++ codes "line " → t2 ≡ t1 ++ decimal number
-    → t3 ≡ t2 ++ codes ", column " → t4 ≡ t3 ++ decimal column → t5 ≡ t4 ++ codes ": " → t6 ≡ t5 ++ sentence → OnOk result (new ≡ t6 ++ codes "\n") → OnOk result ((kind : FaultKind) → IsOfKind kind sentence → TellsOfKind kind number bytes old new)
-unfolding told_appended
-kind_appended {A = A} {E = E} (Ok value) number column bytes old sentence t1 t2 t3 t4 t5 t6 new some in_line speaks long e1 e2 e3 e4 e5 e6 e7 = λ kind is. record {
-  tells = told_appended {A = A} {E = E} (Ok value) number column bytes old sentence t1 t2 t3 t4 t5 t6 new some in_line speaks long e1 e2 e3 e4 e5 e6 e7;
+pub kind_appended : {A E : Type 0} (result : Result A E) (number column : ℕ) (bytes old sentence new : List ℕ) → IsColumn bytes column → IsInLine sentence → SpeaksAt bytes column sentence → (512 < length (without_return bytes) → sentence ≡ line_sentence TooLong)
+    → OnOk result (new ≡ old ++ (codes "line " ++ (decimal number ++ (codes ", column " ++ (decimal column ++ (codes ": " ++ (sentence ++ 10 ∷ []))))))) → OnOk result ((kind : FaultKind) → IsOfKind kind sentence → TellsOfKind kind number bytes old new)
+unfolding tells_line
+kind_appended (Ok value) number column bytes old sentence new inside in_line speaks long spelled = λ kind is. record {
+  tells = tells_line number column bytes old sentence new inside in_line speaks long spelled;
   of_kind = is;
 }
-kind_appended (Err error) number column bytes old sentence t1 t2 t3 t4 t5 t6 new some in_line speaks long e1 e2 e3 e4 e5 e6 e7 = tt
+kind_appended (Err error) number column bytes old sentence new inside in_line speaks long spelled = tt
 
 all_one : (P : Told → Type 0) (x : Told) → P x → All P (x ∷ [])
 all_one P x holds zero d below = holds

@@ -48,7 +48,7 @@ after_ended [] rest in_line = refl
 after_ended (byte ∷ bytes) rest in_line =
     let parts = no_end byte bytes in_line in rw parts.0 (after_ended bytes rest parts.1)
 
-some_same : (left right : List ℕ) → Some left ≡ Some right → left ≡ right
+pub some_same : (left right : List ℕ) → Some left ≡ Some right → left ≡ right
 some_same left right e = cc
 
 pub same_ended : (left right more others : List ℕ) → IsInLine left → IsInLine right → left ++ 10 ∷ more ≡ right ++ 10 ∷ others → (left ≡ right) × (more ≡ others)

@@ -2,11 +2,12 @@
 use Rattle.std.proofs.Common.{◌≡◌, ◌≢◌, ◌∙◌, ◌≤◌, ℕ, List, true, Result, Ok, Err, IfOk, IfSome, inl, inr, ap, arith, length, refl, subst, sym}
 use Rattle.tx_check.specs.Speaking.{is_front, kind_of_line, kind_of_names, kind_of_what, line_sentence, no_label, word_of, FaultKind, IsFitting, IsOfKind, OfGrammar, OfLabel, OfLength, SpeaksBehind}
 use Rattle.tx_check.specs.declared.trouble.LineTrouble.{LineTrouble}
-use Rattle.tx_check.specs.declared.trouble.LineTrouble.TheVariants.{TooLong, TooManySteps, TooManyCommands, TooManyInstructions, TooManyLabels, NoEnd, CarriageReturn, ByteOrderMark, Comment, OtherComment, Empty, Space, NoHeader, NoSessionHeader, HeaderLate, ProgramInSession, NoStep, NeitherStepNorCommand, NoCall, DeferIsLater, MovedIsLater, CommandTooSoon, DebugAgain, DebugInSession, LabelInSchedule, StepInProgram, DebugInProgram, StepAmongCommands, ProgramHere, ScheduleHere, CommandsHere, NoCommands, TooManyToDraw, NoneOfTheGrammar}
+use Rattle.tx_check.specs.declared.trouble.LineTrouble.TheVariants.{TooLong, NoneOfTheGrammar}
 use Rattle.tx_check.specs.declared.trouble.Names.{Names}
 use Rattle.tx_check.specs.declared.trouble.Names.TheVariants as names
 use Rattle.tx_check.specs.declared.trouble.What.{What}
 use Rattle.tx_check.specs.declared.trouble.What.TheVariants as whats
+use Rattle.tx_check.specs.declared.trouble.WordTrouble.TheVariants as words
 
 -- what is so of an answer, where something else is
 pub ok_map : {A E : Type 0} (result : Result A E) (P Q : A → Type 0) → ((x : A) → P x → Q x) → IfOk result P → IfOk result Q
@@ -16,39 +17,7 @@ ok_map (Err error) P Q more is = tt
 -- no trouble with a line as a whole is of a label
 never_label : (trouble : LineTrouble) → kind_of_line trouble ≢ OfLabel
 never_label TooLong is = absurd (cc)
-never_label TooManySteps is = absurd (cc)
-never_label TooManyCommands is = absurd (cc)
-never_label TooManyInstructions is = absurd (cc)
-never_label TooManyLabels is = absurd (cc)
-never_label NoEnd is = absurd (cc)
-never_label CarriageReturn is = absurd (cc)
-never_label ByteOrderMark is = absurd (cc)
-never_label Comment is = absurd (cc)
-never_label OtherComment is = absurd (cc)
-never_label Empty is = absurd (cc)
-never_label Space is = absurd (cc)
-never_label NoHeader is = absurd (cc)
-never_label NoSessionHeader is = absurd (cc)
-never_label HeaderLate is = absurd (cc)
-never_label ProgramInSession is = absurd (cc)
-never_label NoStep is = absurd (cc)
-never_label NeitherStepNorCommand is = absurd (cc)
-never_label NoCall is = absurd (cc)
-never_label DeferIsLater is = absurd (cc)
-never_label MovedIsLater is = absurd (cc)
-never_label CommandTooSoon is = absurd (cc)
-never_label DebugAgain is = absurd (cc)
-never_label DebugInSession is = absurd (cc)
-never_label LabelInSchedule is = absurd (cc)
-never_label StepInProgram is = absurd (cc)
-never_label DebugInProgram is = absurd (cc)
-never_label StepAmongCommands is = absurd (cc)
-never_label ProgramHere is = absurd (cc)
-never_label ScheduleHere is = absurd (cc)
-never_label CommandsHere is = absurd (cc)
-never_label NoCommands is = absurd (cc)
-never_label TooManyToDraw is = absurd (cc)
-never_label NoneOfTheGrammar is = absurd (cc)
+never_label _ is = absurd (cc)
 
 -- the sentence of a trouble with a line
 pub line_kind : (trouble : LineTrouble) (sentence : List ℕ) → sentence ≡ line_sentence trouble → IsOfKind (kind_of_line trouble) sentence
@@ -66,29 +35,15 @@ of_other front word sentence known other speaks = inr (inr (record { front = fro
 names_kind : (those : Names) (front word sentence : List ℕ) → is_front front ≡ true → (kind_of_names those ≡ OfLabel → front ≡ no_label) → (kind_of_names those ≡ OfGrammar → front ≢ no_label) → SpeaksBehind front word sentence
     → IsOfKind (kind_of_names those) sentence
 names_kind (names.Labels text) front word sentence known label other speaks = (word, subst (λ (f : List ℕ). SpeaksBehind f word sentence) (label refl) speaks)
-names_kind names.Calls front word sentence known label other speaks = of_other front word sentence known (other refl) speaks
-names_kind names.Instructions front word sentence known label other speaks = of_other front word sentence known (other refl) speaks
-names_kind names.Commands front word sentence known label other speaks = of_other front word sentence known (other refl) speaks
-names_kind names.Session front word sentence known label other speaks = of_other front word sentence known (other refl) speaks
-names_kind names.Pieces front word sentence known label other speaks = of_other front word sentence known (other refl) speaks
+names_kind _ front word sentence known label other speaks = of_other front word sentence known (other refl) speaks
 
 -- that of a trouble with a word
 pub word_kind : (what : What) (front word sentence : List ℕ) → is_front front ≡ true → (kind_of_what what ≡ OfLabel → front ≡ no_label) → (kind_of_what what ≡ OfGrammar → front ≢ no_label) → SpeaksBehind front word sentence
     → IfSome (word_of what) (λ said. IsOfKind (kind_of_what what) sentence)
 word_kind (whats.Line trouble) front word sentence known label other speaks = tt
 word_kind (whats.OddByte byte) front word sentence known label other speaks = tt
-word_kind (whats.NoSuch those said) front word sentence known label other speaks = names_kind those front word sentence known label other speaks
-word_kind (whats.Word said trouble) front word sentence known label other speaks = of_other front word sentence known (other refl) speaks
-word_kind (whats.Takes name form got) front word sentence known label other speaks = of_other front word sentence known (other refl) speaks
-word_kind (whats.LineAlone said alone) front word sentence known label other speaks = of_other front word sentence known (other refl) speaks
-word_kind (whats.CallAlone said form) front word sentence known label other speaks = of_other front word sentence known (other refl) speaks
-word_kind (whats.OutOfRange said range) front word sentence known label other speaks = of_other front word sentence known (other refl) speaks
-word_kind (whats.Third said trouble) front word sentence known label other speaks = of_other front word sentence known (other refl) speaks
-word_kind (whats.NoneOf said choices) front word sentence known label other speaks = of_other front word sentence known (other refl) speaks
-word_kind (whats.InHex said) front word sentence known label other speaks = of_other front word sentence known (other refl) speaks
-word_kind (whats.NoSignal said) front word sentence known label other speaks = of_other front word sentence known (other refl) speaks
-word_kind (whats.NoSignalIn set member) front word sentence known label other speaks = of_other front word sentence known (other refl) speaks
-word_kind (whats.SecondLabel name number) front word sentence known label other speaks = of_other front word sentence known (other refl) speaks
+word_kind (whats.Word said (words.NoSuch those)) front word sentence known label other speaks = names_kind those front word sentence known label other speaks
+word_kind (whats.Word said _) front word sentence known label other speaks = of_other front word sentence known (other refl) speaks
 
 -- what is neither of a label nor of a length
 pub of_grammar : (what : What) (line : List ℕ) → kind_of_what what ≢ OfLabel → (kind_of_what what ≡ OfLength → what ≡ whats.Line TooLong) → (kind_of_what what ≡ OfLength → length line ≤ 512) → IsFitting line what → kind_of_what what ≡ OfGrammar

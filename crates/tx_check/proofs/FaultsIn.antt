@@ -1,6 +1,5 @@
 -- The line at which a text is at fault is so at fault where the text stands there.
 use Rattle.std.proofs.Common.{◌≡◌, ◌≢◌, ◌∙◌, ℕ, suc, ◌+◌, ◌-◌, ◌<◌, ◌≤◌, Bool, true, false, List, [], ◌∷◌, ◌++◌, Option, Some, None, IfSome, is_some, length, ap, sym, subst, refl, inl, inr, arith}
-use Rattle.std.specs.Prelude.{MatchOption}
 use Rattle.tx_check.proofs.EndedLines.{after_ended, all_at}
 use Rattle.tx_check.proofs.LabelsFound.{label_at, later_is, HasLines}
 use Rattle.tx_check.proofs.LeftOut.{many_there}
@@ -9,9 +8,10 @@ use Rattle.tx_check.proofs.Linked.{has_all, user_nowhere}
 use Rattle.tx_check.proofs.NextLines.{header_right}
 use Rattle.tx_check.proofs.ShortLines.{short_header, short_line}
 use Rattle.tx_check.proofs.Wronged.{none_there, second, too_many}
-use Rattle.tx_check.specs.Behind.{AreLinked, FaultsBehind, IsFaultAt, IsNoLineAt}
+use Rattle.tx_check.specs.Behind.{IsFaultAt, IsNoLineAt}
 use Rattle.tx_check.specs.Kinds.{head_of, kind_of}
 use Rattle.tx_check.specs.Numbered.{after_lines, behind, behind_by, line_at}
+use Rattle.tx_check.specs.Reads.{Finds, IsAtFault}
 use Rattle.tx_check.specs.Stands.{stand_after, stand_behind, AtHeader, IsPlaceOf, StandsAt}
 use Rattle.tx_check.specs.Wrong.{has_end, IsFaultIn, IsNoLabelIn, IsNoLineIn, IsOneTooMany, IsTooManyAfter, IsWrongIn, NoEnd, Other, Second}
 use Rattle.tx_check.specs.declared.kinds.Kind.{Kind}
@@ -20,10 +20,10 @@ use Rattle.tx_check.specs.declared.places.Part.TheVariants as parts
 use Rattle.tx_check.specs.declared.places.Place.{Place}
 use Rattle.tx_check.specs.declared.places.TextLine.{TextLine}
 use Rattle.tx_lines.specs.Lines.{header_text}
-use Rattle.tx_lines.specs.Programs.{line_text, FaultsAtLabel, IsLineOf}
+use Rattle.tx_lines.specs.Programs.{line_text, FaultsAtLabel, IsLineOf, IsProgramFault}
 use Rattle.tx_lines.specs.Schedule.{after_line, first_line, FaultsAtHeader, SpellsHeader}
 use Rattle.tx_lines.specs.declared.faults.Fault.{Fault}
-use Rattle.tx_lines.specs.declared.faults.Fault.TheVariants.{NotALine, NoLabel, TooLong, Reader, Writer, NoMemory}
+use Rattle.tx_lines.specs.declared.faults.Fault.TheVariants.{NotALine, NoLabel, TooLong}
 use Rattle.tx_lines.specs.declared.instructions.Line.{Line}
 use Rattle.tx_lines.specs.declared.read.header.Header.{Header}
 use Rattle.tx_lines.specs.declared.read.header.TextKind.{TextKind}
@@ -47,10 +47,7 @@ no_line_first text fault short is = record {
 first_in : (text : List ℕ) (fault : Fault) → FaultsAtHeader (head_of (kind_of text)) text fault → IsFaultIn text fault
 first_in text (TooLong line) is = inl (subst (λ (n : ℕ). 512 < length (line_at n text)) (sym is.0) is.1)
 first_in text (NotALine line) is = subst (IsNoLineIn text) (sym is.0) (no_line_first text (NotALine line) is.1 is)
-first_in text (NoLabel line) is = absurd is
-first_in text Reader is = absurd is
-first_in text Writer is = absurd is
-first_in text NoMemory is = absurd is
+first_in text _ is = absurd is
 
 pub header_there : (kind : Kind) (text : List ℕ) (fault : Fault) → kind ≡ kind_of text → FaultsAtHeader (head_of kind) text fault → IsFaultIn text fault
 header_there kind text fault same is = first_in text fault (subst (λ (k : Kind). FaultsAtHeader (head_of k) text fault) same is)
@@ -114,10 +111,7 @@ fault_in text number place line (NotALine found) is at =
       of_text = is.stands.version;
       wrong = wrong_in text number place line is at.3;
     })
-fault_in text number place line (NoLabel found) is at = absurd at
-fault_in text number place line Reader is at = absurd at
-fault_in text number place line Writer is at = absurd at
-fault_in text number place line NoMemory is at = absurd at
+fault_in text number place line _ is at = absurd at
 
 pub fault_there : (text left : List ℕ) (place : Place) (line : TextLine) (fault : Fault) → StandsAt text line.number place → place.part ≢ parts.Link → left ≡ after_lines (line.number - 1) text
     → line.bytes.now ≡ first_line left → line.is_ended ≡ is_some (after_line left) → IsFaultAt text place line fault → IsFaultIn text fault
@@ -161,14 +155,13 @@ label_is text header rest number is spells fault =
       };
     }
 
-by_label : (text : List ℕ) (header : Header) (rest : List ℕ) (fault : Fault) → kinds.Program ≡ kind_of text → SpellsHeader texts.Program text header rest
-    → FaultsBehind kinds.Program header.version rest fault
-    → (line : ℕ) × (fault ≡ NoLabel line) → IsFaultIn text fault
-by_label text header rest fault is spells at label =
-    let found = subst (FaultsBehind kinds.Program header.version rest) label.1 at in
-    subst (IsFaultIn text) (sym label.1) (label_is text header rest label.0 is spells found)
+by_label : (text : List ℕ) (fault : Fault) → kinds.Program ≡ kind_of text → IsAtFault kinds.Program text fault → (line : ℕ) × (fault ≡ NoLabel line) → IsFaultIn text fault
+by_label text fault is at label = subst (IsFaultIn text) (sym label.1) (of_label (subst (IsProgramFault text) label.1 at))
+  where
+    of_label : IsProgramFault text (NoLabel label.0) → IsNoLabelIn text label.0
+    of_label (inl header) = absurd header
+    of_label (inr found) = label_is text found.0 found.1 label.0 is found.2 found.3
 
-pub label_there : (text : List ℕ) (header : Header) (rest : List ℕ) (found : Option Fault) → kinds.Program ≡ kind_of text → SpellsHeader texts.Program text header rest
-    → MatchOption found (AreLinked header.version rest) (FaultsBehind kinds.Program header.version rest) → IfSome found (λ fault. (line : ℕ) × (fault ≡ NoLabel line)) → IfSome found (IsFaultIn text)
-label_there text header rest None is spells at label = tt
-label_there text header rest (Some fault) is spells at label = by_label text header rest fault is spells at label
+pub label_there : (text : List ℕ) (found : Option Fault) → kinds.Program ≡ kind_of text → Finds kinds.Program text found → IfSome found (λ fault. (line : ℕ) × (fault ≡ NoLabel line)) → IfSome found (IsFaultIn text)
+label_there text None is at label = tt
+label_there text (Some fault) is at label = by_label text fault is at label

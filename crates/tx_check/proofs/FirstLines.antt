@@ -9,7 +9,7 @@ use Rattle.tx_check.proofs.ShortLines.{short_header}
 use Rattle.tx_lines.specs.Lines.{header_text}
 use Rattle.tx_lines.specs.Schedule.{after_line, first_line, FaultsAtHeader, IsNoHeader, SpellsHeader}
 use Rattle.tx_lines.specs.declared.faults.Fault.{Fault}
-use Rattle.tx_lines.specs.declared.faults.Fault.TheVariants.{NotALine, NoLabel, TooLong, Reader, Writer, NoMemory}
+use Rattle.tx_lines.specs.declared.faults.Fault.TheVariants.{NotALine, TooLong}
 use Rattle.tx_lines.specs.declared.read.header.Header.{Header}
 use Rattle.tx_lines.specs.declared.read.header.TextKind.{TextKind}
 
@@ -46,7 +46,4 @@ header_wrong kind text head (NotALine line) is wrong =
         | inr other ↦ inr (subst (IsNoHeader kind) same other)
       ],
     )
-header_wrong kind text head (NoLabel line) is wrong = absurd wrong
-header_wrong kind text head Reader is wrong = absurd wrong
-header_wrong kind text head Writer is wrong = absurd wrong
-header_wrong kind text head NoMemory is wrong = absurd wrong
+header_wrong kind text head _ is wrong = absurd wrong

@@ -4,15 +4,14 @@ use Rattle.tx_check.specs.Reads.{Finds, IsAtFault}
 use Rattle.tx_check.specs.declared.kinds.Kind.{Kind}
 use Rattle.tx_lines.specs.Schedule.{FaultsBy}
 use Rattle.tx_lines.specs.declared.faults.Fault.{Fault}
-use Rattle.tx_lines.specs.declared.faults.Fault.TheVariants.{NotALine, NoLabel, TooLong, Reader, Writer, NoMemory}
+use Rattle.tx_lines.specs.declared.faults.Fault.TheVariants.{NotALine, NoLabel, TooLong, NoMemory}
 
 in_text : (Is : Fault → Type 0) (fault : Fault) → FaultsBy Is fault → fault ≢ NoMemory → Is fault
 in_text Is (NotALine line) is some = is
 in_text Is (NoLabel line) is some = is
 in_text Is (TooLong line) is some = is
 in_text Is NoMemory is some = absurd (some refl)
-in_text Is Reader is some = absurd is
-in_text Is Writer is some = absurd is
+in_text Is _ is some = absurd is
 
 -- a fault that a reader tells is the text's, where it is no want of memory
 pub found : {E : Type 0} (Is : Fault → Type 0) (result : Result (Option Fault) E) (kind : Kind) (text : List ℕ) (fault : Fault) → ((f : Fault) → Is f → IsAtFault kind text f) → FaultsBy Is fault → IfOk result (λ f. f ≡ Some fault)

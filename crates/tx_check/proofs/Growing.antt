@@ -1,5 +1,5 @@
 -- Lines one after another, with one more, and what stands behind some.
-use Rattle.std.proofs.Common.{◌≡◌, ◌≢◌, ◌∙◌, ℕ, zero, suc, ◌<◌, ◌==◌, eqb-true, true, false, List, [], ◌∷◌, ◌++◌, Option, Some, None, is_some, length, length-append, refl, ap, sym, inl, inr, arith, append_assoc, All}
+use Rattle.std.proofs.Common.{◌≡◌, ◌≢◌, ◌∙◌, ℕ, zero, suc, ◌<◌, ◌==◌, eqb-true, true, false, List, [], ◌∷◌, ◌++◌, Option, Some, None, is_some, length, refl, ap, sym, inl, inr, arith, append_assoc, All}
 use Rattle.std.proofs.lemmas.Bool.{both_ways}
 use Rattle.std.proofs.lemmas.Bool.Decides.{eqb_tells}
 use Rattle.std.proofs.lemmas.List.Elements.{All-append}
@@ -21,10 +21,6 @@ line_parts (byte ∷ bytes) rest e =
           rw (h.0, h.1, same) refl
       | inr h ↦ let on : after_line bytes ≡ Some rest = rw h.0 at e in rw h.0 (ap (λ (t : List ℕ). byte ∷ t) (line_parts bytes rest on))
     ]
-
--- what follows a line is shorter
-pub after_shorter : (text rest : List ℕ) → after_line text ≡ Some rest → length rest < length text
-after_shorter text rest e = omega (arith, ap length (line_parts text rest e), length-append (first_line text) (10 ∷ rest))
 
 pub some_by : (found : Option (List ℕ)) → is_some found ≡ true → found ≡ Some (behind_by found)
 some_by None e = absurd (cc)
@@ -99,7 +95,7 @@ after_first version one lines left good =
     ap after_line (append_assoc (line_text one) (10 ∷ lines_of line_text lines) left)
     ∙ after_ended (line_text one) (lines_of line_text lines ++ left) (short_line version one good).in_line
 
-none_left : (count : ℕ) → after_lines count [] ≡ []
+pub none_left : (count : ℕ) → after_lines count [] ≡ []
 none_left zero = refl
 none_left (suc count) = ap behind (none_left count)
 

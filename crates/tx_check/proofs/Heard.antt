@@ -9,7 +9,7 @@ use Rattle.tx_check.specs.declared.readers.Reader.{Reader as TheReader}
 use Rattle.tx_lines.specs.Ends.{Counts}
 use Rattle.tx_lines.specs.Whole.{WritesWhole}
 use Rattle.tx_lines.specs.declared.faults.Fault.{Fault}
-use Rattle.tx_lines.specs.declared.faults.Fault.TheVariants.{NotALine, NoLabel, TooLong, Reader, Writer, NoMemory}
+use Rattle.tx_lines.specs.declared.faults.Fault.TheVariants.{Writer}
 
 all_of : (left : Option (List ℕ)) (text : List ℕ) → IfSome left (λ bytes. text ≡ [] ++ bytes) → IfSome left (λ bytes. bytes ≡ text)
 all_of None text is = tt
@@ -26,13 +26,9 @@ hears reader left left' text told consumes end short is = record {
 -- what came of the writing of what is told
 written_front : (reader : TheReader) (left written written' : Option (List ℕ)) (reads reads' writes writes' : Counts) (told : List ℕ) (fault : Fault)
     → Hears reader left told → WritesWhole written writes told (Err fault) written' writes' → Checks reader left reads written writes (Err fault) reads' written' writes'
-written_front reader left written written' reads reads' writes writes' told (NotALine line) heard none = absurd none
-written_front reader left written written' reads reads' writes writes' told (NoLabel line) heard none = absurd none
-written_front reader left written written' reads reads' writes writes' told (TooLong line) heard none = absurd none
-written_front reader left written written' reads reads' writes writes' told Reader heard none = absurd none
-written_front reader left written written' reads reads' writes writes' told NoMemory heard none = absurd none
 written_front reader left written written' reads reads' writes writes' told Writer heard wrote =
     (record { told = told; count = wrote.0.0; hears = heard; inside = wrote.0.1; bytes = wrote.0.2 }, wrote.1)
+written_front reader left written written' reads reads' writes writes' told _ heard none = absurd none
 
 -- and of its error, as it is handed up
 pub written_part : (reader : TheReader) (left written written' : Option (List ℕ)) (reads reads' writes writes' : Counts) (told : List ℕ) (fault : Fault) (result : Result Bool Fault)

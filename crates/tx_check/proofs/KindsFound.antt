@@ -2,6 +2,7 @@
 use Rattle.std.proofs.Common.{◌≡◌, ◌≢◌, ◌∙◌, ◌⊎◌, ℕ, ◌-◌, ◌<◌, Bool, true, false, List, is_some, length, ap, sym, subst, refl, inl, inr, arith}
 use Rattle.tx_check.proofs.LeftOut.{many_there, not_wrong, one_version}
 use Rattle.tx_check.proofs.Wronged.{too_many}
+use Rattle.tx_check.specs.Told.{kind_of_fault}
 use Rattle.tx_check.specs.Behind.{IsQuietAt}
 use Rattle.tx_check.specs.Kinds.{head_of, kind_of}
 use Rattle.tx_check.specs.Numbered.{line_at}
@@ -9,7 +10,6 @@ use Rattle.tx_check.specs.Reads.{line_of}
 use Rattle.tx_check.specs.Right.{IsNoneThere, IsTooMany}
 use Rattle.tx_check.specs.Speaking.{FaultKind, IsKindAt, OfGrammar, OfLabel, OfLength}
 use Rattle.tx_check.specs.Stands.{stand_behind, StandsAt}
-use Rattle.tx_check.specs.ToldKinds.{kind_of_fault}
 use Rattle.tx_check.specs.Wrong.{has_end, IsFaultIn, IsNoLabelIn, IsNoLineIn, IsOneTooMany, IsTooManyAfter, IsWrongIn}
 use Rattle.tx_check.specs.declared.places.Part.{Part}
 use Rattle.tx_check.specs.declared.places.Part.TheVariants as parts
@@ -18,7 +18,7 @@ use Rattle.tx_check.specs.declared.places.TextLine.{TextLine}
 use Rattle.tx_lines.specs.Programs.{IsLineOf}
 use Rattle.tx_lines.specs.Schedule.{after_line}
 use Rattle.tx_lines.specs.declared.faults.Fault.{Fault}
-use Rattle.tx_lines.specs.declared.faults.Fault.TheVariants.{NotALine, NoLabel, TooLong, Reader, Writer, NoMemory}
+use Rattle.tx_lines.specs.declared.faults.Fault.TheVariants.{NotALine, NoLabel, TooLong}
 use Rattle.tx_lines.specs.declared.read.header.Version.{Version}
 
 abbrev pub ended_in : List ℕ → Bool
@@ -124,6 +124,4 @@ pub kind_found : (text : List ℕ) (fault : Fault) (place : Place) (line : TextL
 kind_found text (TooLong number) place line kind fault is label other found = by_long text number place line kind is (other (λ n e. absurd (cc))) fault found
 kind_found text (NotALine number) place line kind fault is label other found = by_line text number place line kind is (other (λ n e. absurd (cc))) fault found
 kind_found text (NoLabel number) place line kind fault is label other found = by_label text number place line kind is (label number refl) fault found
-kind_found text Reader place line kind fault is label other found = absurd fault
-kind_found text Writer place line kind fault is label other found = absurd fault
-kind_found text NoMemory place line kind fault is label other found = absurd fault
+kind_found text _ place line kind fault is label other found = absurd fault

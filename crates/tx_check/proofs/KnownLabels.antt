@@ -124,9 +124,6 @@ end_from text all name count (suc more) whole left none k below =
 pub no_label_left : (text : List ℕ) (all : ℕ) (name : List ℕ) → SoughtTo text all name [] → (k : ℕ) → k < all → first_line (after_lines k text) ≢ label_front ++ name
 no_label_left text all name so = end_from text all name so.count so.more so.whole so.left so.none
 
-pub sought_first : (text : List ℕ) (all : ℕ) (name : List ℕ) (labels : List (ℕ × List ℕ)) → labels ≡ labels_in all 1 text → SoughtTo text all name labels
-sought_first text all name labels are = record { count = 0; more = all; whole = omega arith; left = are; none = λ k below. absurd (omega (arith, below)) }
-
 -- the label at a place among those that are known
 pub next_known : (text : List ℕ) (all : ℕ) (name : List ℕ) (known : List LabelLine) (at : ℕ) (other : LabelLine) → at < length known → SoughtTo text all name (map label_at (drop at known)) →
     IsNextLabel text all name (get_or known at other).number (line_of (get_or known at other).line) (map label_at (drop (at + 1) known))

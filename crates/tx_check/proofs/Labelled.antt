@@ -7,7 +7,7 @@ use Rattle.std.proofs.lemmas.Slice.Eq.{bytes_eq-Decides}
 use Rattle.std.specs.List.{AllByRecursion, IsDistinct}
 use Rattle.std.specs.Map.{keys_of, lookup}
 use Rattle.tx_check.proofs.EndedLines.{heads_same}
-use Rattle.tx_check.proofs.NamedLabels.{no_label, same_label}
+use Rattle.tx_check.proofs.NamedLabels.{no_label, same_instruction, same_label}
 use Rattle.tx_lines.specs.Programs.{instructions_of, labels_from, labels_of, line_text, linked, same_name, IsUser}
 use Rattle.tx_lines.specs.declared.instructions.Instruction.{Instruction}
 use Rattle.tx_lines.specs.declared.instructions.Line.{Line}
@@ -94,9 +94,6 @@ linked_later labels (line.Label name) ones made e = (made, e)
 linked_later labels (line.Instruction instruction) ones [] e = absurd (cc)
 linked_later labels (line.Instruction instruction) ones (first ∷ made) e =
     (made, (tails_same (linked labels instruction) (Some first) (map (linked labels) (instructions_of ones)) (map Some made) e).1)
-
-same_instruction : (one other : Instruction) → line.Instruction one ≡ line.Instruction other → one ≡ other
-same_instruction one other e = cc
 
 pub linked_first : (labels : List (Name × ℕ)) (one : Line) (ones : List Line) (made : List Instruction) → map (linked labels) (instructions_of (one ∷ ones)) ≡ map Some made → IsUser labels one → ⊥
 linked_first labels (line.Label name) ones made e user = let bad = user.same in absurd (cc)

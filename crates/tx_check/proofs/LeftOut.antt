@@ -2,10 +2,10 @@
 use Rattle.std.proofs.Common.{◌≡◌, ◌≢◌, ◌∙◌, ◌⊎◌, ℕ, zero, suc, ◌+◌, ◌-◌, ◌<◌, ◌≤◌, Bool, true, false, List, [], ◌++◌, append-nil, if◌then◌else◌, length, drop, refl, ap, sym, subst, inl, inr, arith}
 use Rattle.std.proofs.lemmas.Bool.{cases_lt}
 use Rattle.std.specs.Str.{bytes_eq}
-use Rattle.tx_check.proofs.Growing.{none_beyond}
+use Rattle.tx_check.proofs.Growing.{none_beyond, none_left}
 use Rattle.tx_check.proofs.Labelled.{counts}
 use Rattle.tx_check.proofs.LabelsFound.{later_is, HasLines}
-use Rattle.tx_check.proofs.LineParts.{label_parts, none_behind}
+use Rattle.tx_check.proofs.LineParts.{label_parts}
 use Rattle.tx_check.proofs.OwnLines.{lines_after}
 use Rattle.tx_check.proofs.SameHeaders.{same_header}
 use Rattle.tx_check.proofs.SoFar.{no_debug_line}
@@ -177,7 +177,7 @@ past_all text before number past wrong later =
 pub none_later : (text : List ℕ) (before number : ℕ) → after_lines before text ≡ [] → after_lines (number - 1) text ≢ [] → before < number → ⊥
 none_later text before number none there later =
     let whole : (number - 1 - before) + before ≡ number - 1 = omega (arith, later) in
-    there (ap (λ (n : ℕ). after_lines n text) (sym whole) ∙ sym (lines_after (number - 1 - before) before text) ∙ ap (after_lines (number - 1 - before)) none ∙ none_behind (number - 1 - before))
+    there (ap (λ (n : ℕ). after_lines n text) (sym whole) ∙ sym (lines_after (number - 1 - before) before text) ∙ ap (after_lines (number - 1 - before)) none ∙ none_left (number - 1 - before))
 
 -- a text whose labels alone are at fault has few lines
 few_lines : (text : List ℕ) (header : Header) (rest : List ℕ) (line number : ℕ) → SpellsHeader texts.Program text header rest → FaultsAtLabel header.version rest line
@@ -216,6 +216,4 @@ wrong_after kind text (faults.TooLong line) part passed number at is label other
     (omega (arith, at, wrong.0), omega (arith, few_wrong text number wrong.1), inr (other (λ l e. absurd (cc)), wrong.1))
 wrong_after kind text (faults.NoLabel line) part passed number at is label other wrong =
     (omega (arith, at, wrong.0), omega (arith, few_unlinked kind text line number is wrong.1.there), inl (label line refl, wrong.1))
-wrong_after kind text faults.Reader part passed number at is label other wrong = absurd wrong
-wrong_after kind text faults.Writer part passed number at is label other wrong = absurd wrong
-wrong_after kind text faults.NoMemory part passed number at is label other wrong = absurd wrong
+wrong_after kind text _ part passed number at is label other wrong = absurd wrong

@@ -12,9 +12,7 @@ pub mod LabelsFound
 pub mod LeftOut
 pub mod LineParts
 pub mod Linked
-pub mod MeantLong
 pub mod NamedLabels
-pub mod NamedWords
 pub mod NearNames
 pub mod NextLines
 pub mod FirstLines
@@ -29,7 +27,6 @@ pub mod ProgramTexts
 pub mod ReadOrFaulty
 pub mod ReadTexts
 pub mod SameHeaders
-pub mod SessionTold
 pub mod ShortLines
 pub mod ShortWords
 pub mod SoFar

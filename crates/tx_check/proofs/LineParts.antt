@@ -1,25 +1,15 @@
 -- The parts of a line, and the lines behind the last one.
-use Rattle.std.proofs.Common.{◌≡◌, ◌≢◌, ◌∙◌, ℕ, zero, suc, ◌+◌, ◌-◌, ◌<◌, Bool, true, List, [], ◌∷◌, ◌++◌, IsTrue, length, take, drop, take-append-drop, length-drop, ap, sym, refl, inl, inr, arith}
+use Rattle.std.proofs.Common.{◌≡◌, ◌≢◌, ◌∙◌, ℕ, ◌+◌, ◌-◌, ◌<◌, Bool, true, List, [], ◌∷◌, ◌++◌, IsTrue, length, take, drop, take-append-drop, length-drop, ap, sym, inl, inr, arith}
 use Rattle.std.proofs.lemmas.Slice.Eq.{bytes_eq-Decides}
 use Rattle.std.proofs.lemmas.Bool.{cases_lt}
 use Rattle.std.proofs.lemmas.List.{take_all}
 use Rattle.std.specs.Str.{bytes_eq}
+use Rattle.tx_check.proofs.Growing.{none_left}
 use Rattle.tx_check.proofs.OwnLines.{lines_after}
-use Rattle.tx_check.specs.Kinds.{front_word}
-use Rattle.tx_check.specs.Numbered.{after_lines, behind, line_at}
+use Rattle.tx_check.specs.Numbered.{after_lines, line_at}
 use Rattle.tx_check.specs.Stands.{begins_label}
-use Rattle.tx_check.specs.Wrong.{IsWordOf}
 use Rattle.tx_lines.specs.Programs.{label_front}
 use Rattle.tx_lines.specs.Schedule.{first_line}
-
--- the word from a place on
-pub word_from : (line word : List ℕ) (start : ℕ) → word ≡ front_word (take (length line - start) (drop start line)) → IsWordOf word line
-word_from line word start same = record {
-  front = take start line;
-  rest = drop start line;
-  parts = sym (take-append-drop start line);
-  same = same ∙ ap front_word (take_all (length line - start) (drop start line) (omega (arith, length-drop start line)));
-}
 
 -- a line that begins as a label's is that of the name behind
 pub label_parts : (line : List ℕ) → begins_label line ≡ true → line ≡ label_front ++ drop 6 line
@@ -33,10 +23,6 @@ label_of line name test begins is =
       λ same. is ∙ decides.1 (whole ∙ ap (drop 6) same),
     )
 
-pub none_behind : (count : ℕ) → after_lines count [] ≡ []
-none_behind zero = refl
-none_behind (suc count) = ap behind (none_behind count)
-
 -- no line is that label where none of the first lines is, and no other is there
 pub no_other : (text left name : List ℕ) (passed : ℕ) → left ≡ after_lines passed text → length left ≡ 0 → ((k : ℕ) → k < passed → first_line (after_lines k text) ≢ label_front ++ name)
     → (number : ℕ) → line_at number text ≢ label_front ++ name
@@ -45,7 +31,7 @@ no_other text [] name passed at none others number e =
       | inr later ↦
           let sum : (number - 1 - passed) + passed ≡ number - 1 = omega (arith, later) in
           let empty : after_lines (number - 1) text ≡ [] =
-          ap (λ (n : ℕ). after_lines n text) (sym sum) ∙ sym (lines_after (number - 1 - passed) passed text) ∙ ap (after_lines (number - 1 - passed)) (sym at) ∙ none_behind (number - 1 - passed) in
+          ap (λ (n : ℕ). after_lines n text) (sym sum) ∙ sym (lines_after (number - 1 - passed) passed text) ∙ ap (after_lines (number - 1 - passed)) (sym at) ∙ none_left (number - 1 - passed) in
           let bad : [] ≡ label_front ++ name = sym (ap first_line empty) ∙ e in
           absurd (cc)
       | inl before ↦ others (number - 1) before e

@@ -4,8 +4,10 @@ use Rattle.std.specs.Map.{lookup}
 use Rattle.tx_check.proofs.EndedLines.{all_at}
 use Rattle.tx_check.proofs.Growing.{first_of, next_behind}
 use Rattle.tx_check.proofs.LabelsFound.{found_label, label_at, labelled, none_labelled, HasLines, IsLabelled}
-use Rattle.tx_check.specs.Behind.{AreLinked, AreProgramLines, FaultsBehind}
+use Rattle.tx_check.proofs.ReadTexts.{program_read}
+use Rattle.tx_check.specs.Behind.{AreProgramLines}
 use Rattle.tx_check.specs.Numbered.{behind, line_at}
+use Rattle.tx_check.specs.Reads.{IsAtFault, IsRead}
 use Rattle.tx_check.specs.Wrong.{IsNamedNowhere, IsNowhere}
 use Rattle.tx_check.specs.declared.kinds.Kind.TheVariants as kinds
 use Rattle.tx_lines.specs.Programs.{instructions_of, label_front, label_in, labels_of, line_text, linked, linked_line, linked_to, same_name, with_point, AreLines, IsLineOf, IsUser}
@@ -159,39 +161,41 @@ linked_next version text rest header number left so next spells there =
       linked_before = subst (λ (ls : List Line). map (linked (labels_of ls)) (instructions_of (so.before ++ next.one ∷ [])) ≡ map Some more.0) whole more.1;
     }
 
-pub linked_fault : (version : Version) (text rest : List ℕ) (header : Header) (number : ℕ) (left : List ℕ) (so : LinkedSoFar version rest number left) (next : IsNextLine version so.after left) → SpellsHeader texts.Program text header rest
-    → IsNamedNowhere text next.one → FaultsBehind kinds.Program version rest (NoLabel number)
-linked_fault version text rest header number left so next spells nowhere =
-    let has = has_all version text rest header (so.before ++ so.after) spells so.are so.spelled in
-    record {
-      lines = so.before ++ so.after;
-      good = so.are;
-      spelled = so.spelled;
-      first = record {
-        before = so.before;
-        user = next.one;
-        after = next.more;
-        parts = ap (λ (ls : List Line). so.before ++ ls) next.parts;
-        linked_before = (so.made, so.linked_before);
-        nowhere = is_user version text (so.before ++ so.after) next.one has nowhere;
-        same = so.at;
-      };
-    }
+pub linked_fault : (text rest : List ℕ) (header : Header) (number : ℕ) (left : List ℕ) (so : LinkedSoFar header.version rest number left) (next : IsNextLine header.version so.after left) → SpellsHeader texts.Program text header rest
+    → IsNamedNowhere text next.one → IsAtFault kinds.Program text (NoLabel number)
+linked_fault text rest header number left so next spells nowhere =
+    let has = has_all header.version text rest header (so.before ++ so.after) spells so.are so.spelled in
+    inr (
+      header,
+      rest,
+      spells,
+      record {
+        lines = so.before ++ so.after;
+        good = so.are;
+        spelled = so.spelled;
+        first = record {
+          before = so.before;
+          user = next.one;
+          after = next.more;
+          parts = ap (λ (ls : List Line). so.before ++ ls) next.parts;
+          linked_before = (so.made, so.linked_before);
+          nowhere = is_user header.version text (so.before ++ so.after) next.one has nowhere;
+          same = so.at;
+        };
+      },
+    )
 
 -- nothing is left
 none_after : (after : List Line) → [] ≡ lines_of line_text after → after ≡ []
 none_after [] e = refl
 none_after (one ∷ after) e = absurd (omega (arith, ap length e, length-append (line_text one) (10 ∷ lines_of line_text after)))
 
-pub linked_all : (version : Version) (rest : List ℕ) (number : ℕ) (left : List ℕ) → left ≡ [] → LinkedSoFar version rest number left → AreLinked version rest
-linked_all version rest number left none so =
+pub linked_all : (text : List ℕ) (header : Header) (rest : List ℕ) (number : ℕ) (left : List ℕ) → SpellsHeader texts.Program text header rest → left ≡ [] → LinkedSoFar header.version rest number left → IsRead kinds.Program text
+linked_all text header rest number left spells none so =
     let whole : so.before ≡ so.before ++ so.after =
     sym (append-nil so.before) ∙ ap (λ (ls : List Line). so.before ++ ls) (sym (none_after so.after (sym none ∙ so.left_is))) in
-    record {
-      all = record { lines = so.before ++ so.after; are = so.are; spelled = so.spelled };
-      made = so.made;
-      linked_all = ap (λ (ls : List Line). map (linked (labels_of (so.before ++ so.after))) (instructions_of ls)) (sym whole) ∙ so.linked_before;
-    }
+    program_read text header rest (record { lines = so.before ++ so.after; are = so.are; spelled = so.spelled }) so.made spells
+    (ap (λ (ls : List Line). map (linked (labels_of (so.before ++ so.after))) (instructions_of ls)) (sym whole) ∙ so.linked_before)
 
 -- the lines with what is left
 pub few_linked : (version : Version) (rest : List ℕ) (number : ℕ) (left : List ℕ) (so : LinkedSoFar version rest number left) → number ≤ length (so.before ++ so.after) + 2

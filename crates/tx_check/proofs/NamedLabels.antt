@@ -1,5 +1,5 @@
 -- The label that a line of a program names, and whether it is one: both are told by its text.
-use Rattle.std.proofs.Common.{◌≡◌, ◌∙◌, ℕ, zero, suc, inl, inr, Bool, true, false, not, ◌&&◌, nat_eq, if◌then◌else◌, List, [], ◌∷◌, ◌++◌, Option, Some, None, option_map, codes, refl, ap, sym, subst}
+use Rattle.std.proofs.Common.{◌≡◌, ◌∙◌, ℕ, inl, inr, Bool, true, false, not, ◌&&◌, nat_eq, if◌then◌else◌, List, [], ◌∷◌, ◌++◌, Option, Some, None, option_map, codes, refl, ap, append_assoc, sym, subst}
 use Rattle.std.proofs.lemmas.Bool.{both_ways}
 use Rattle.std.proofs.lemmas.Bool.Decides.{eqb_tells}
 use Rattle.std.proofs.lemmas.List.{append_cancel_left}
@@ -10,11 +10,13 @@ use Rattle.std.specs.Map.{lookup}
 use Rattle.std.specs.Str.{bytes_eq}
 use Rattle.tx_base.specs.declared.steps.Call.{Call}
 use Rattle.tx_base.specs.declared.steps.Call.TheVariants as call
+use Rattle.tx_check.proofs.EndedLines.{some_same}
 use Rattle.tx_check.proofs.InLine.{both_true}
 use Rattle.tx_check.proofs.ShortLines.{kept, plain_named, plain_words}
 use Rattle.tx_check.proofs.ShortWords.{has_plain, is_plain, plain_argument, plain_slot, short_name}
 use Rattle.tx_check.specs.Kinds.{front_by, front_word}
-use Rattle.tx_check.specs.WordParts.{after_space, after_space_of, words_left, IsWordBehind}
+use Rattle.tx_check.specs.Right.{SpellsLine}
+use Rattle.tx_check.specs.Wrong.{IsNamedNowhere, IsNowhere, IsWordOf, NamesNowhere}
 use Rattle.tx_lines.specs.Arguments.{word_of, AllFit, Argument}
 use Rattle.tx_lines.specs.Calls.{arguments_of, name_of, program_arguments}
 use Rattle.tx_lines.specs.Instructions.{instruction_text, spelled_words, AreSpelled, IsInstruction}
@@ -117,50 +119,50 @@ front_is [] = refl
 front_is (byte ∷ bytes) =
     elim (eqb_tells byte 32) [ inl h ↦ rw h.0 refl | inr h ↦ rw h.0 (front_on byte bytes (up_to_space bytes) (first_word bytes) (front_is bytes)) ]
 
--- the words behind a plain one
-after_word : (word rest : List ℕ) → list_all is_plain word ≡ true → after_space (word ++ 32 ∷ rest) ≡ Some rest
-after_word [] rest plain = refl
-after_word (byte ∷ bytes) rest plain = let is = other byte bytes plain in rw is.space (after_word bytes rest is.later)
-
-words_on : (count : ℕ) (word rest : List ℕ) → list_all is_plain word ≡ true → words_left (suc count) (word ++ 32 ∷ rest) ≡ words_left count rest
-words_on zero word rest plain = after_word word rest plain
-words_on (suc count) word rest plain = ap after_space_of (words_on count word rest plain)
-
-later_word : (count : ℕ) (word rest one : List ℕ) → list_all is_plain word ≡ true → IsWordBehind count rest one → IsWordBehind (suc count) (word ++ 32 ∷ rest) one
-later_word count word rest one plain is = record { left = is.left; is = words_on count word rest plain ∙ is.is; same = is.same }
+-- a word behind the first one
+later_word : (word rest one : List ℕ) → IsWordOf one rest → IsWordOf one (word ++ 32 ∷ rest)
+later_word word rest one is = record {
+  front = word ++ 32 ∷ is.front;
+  rest = is.rest;
+  parts = ap (λ (t : List ℕ). word ++ 32 ∷ t) is.parts ∙ sym (append_assoc word (32 ∷ is.front) is.rest);
+  same = is.same;
+}
 
 marked_first : (name : List ℕ) (words : List (List ℕ)) → list_all is_plain name ≡ true → up_to_space (joined (64 ∷ name) words) ≡ 64 ∷ name
 marked_first name [] plain = ap (λ (t : List ℕ). 64 ∷ t) (up_to_end name plain)
 marked_first name (next ∷ words) plain = ap (λ (t : List ℕ). 64 ∷ t) (up_to_next name (joined next words) plain)
 
 -- the label that some arguments name is one of their words
-word_of_label : (word : List ℕ) (spellings : List Spelling) (arguments : List Argument) (name : Name) → list_all is_plain word ≡ true → AreSpelled spellings arguments
-    → AllFit arguments → list_all has_plain arguments ≡ true
-    → label_in spellings ≡ Some name → (count : ℕ) × IsWordBehind count (joined word (spelled_words spellings arguments)) (64 ∷ name.bytes.items)
-word_of_label word [] [] name plain are fit holds is = absurd (cc)
-word_of_label word [] (argument ∷ arguments) name plain are fit holds is = absurd are
-word_of_label word (spelling ∷ spellings) [] name plain are fit holds is = absurd are
-word_of_label word (Plain ∷ spellings) (argument ∷ arguments) name plain are fit holds is =
-    let parts = both_true (has_plain argument) (list_all has_plain arguments) holds in
-    let later = word_of_label (word_of argument) spellings arguments name (plain_argument argument fit.0 parts.0).plain are.1 fit.1 parts.1 is in
-    (suc later.0, later_word later.0 word (joined (word_of argument) (spelled_words spellings arguments)) (64 ∷ name.bytes.items) plain later.1)
-word_of_label word (Slot slot ∷ spellings) (argument ∷ arguments) name plain are fit holds is =
-    let parts = both_true (has_plain argument) (list_all has_plain arguments) holds in
-    let later = word_of_label (36 ∷ decimal slot) spellings arguments name (plain_slot slot are.0.0).plain are.1 fit.1 parts.1 is in
-    (suc later.0, later_word later.0 word (joined (36 ∷ decimal slot) (spelled_words spellings arguments)) (64 ∷ name.bytes.items) plain later.1)
-word_of_label word (Label label ∷ spellings) (argument ∷ arguments) name plain are fit holds is =
+word_of_label : (word : List ℕ) (spellings : List Spelling) (arguments : List Argument) (name : Name) → AreSpelled spellings arguments → label_in spellings ≡ Some name
+    → IsWordOf (64 ∷ name.bytes.items) (joined word (spelled_words spellings arguments))
+word_of_label word [] arguments name are is = absurd (cc)
+word_of_label word (spelling ∷ spellings) [] name are is = absurd are
+word_of_label word (Plain ∷ spellings) (argument ∷ arguments) name are is =
+    later_word word (joined (word_of argument) (spelled_words spellings arguments)) (64 ∷ name.bytes.items) (word_of_label (word_of argument) spellings arguments name are.1 is)
+word_of_label word (Slot slot ∷ spellings) (argument ∷ arguments) name are is =
+    later_word word (joined (36 ∷ decimal slot) (spelled_words spellings arguments)) (64 ∷ name.bytes.items) (word_of_label (36 ∷ decimal slot) spellings arguments name are.1 is)
+word_of_label word (Label label ∷ spellings) (argument ∷ arguments) name are is =
     let same : label ≡ name = cc in
     let rest = joined (64 ∷ label.bytes.items) (spelled_words spellings arguments) in
     let first : front_word rest ≡ 64 ∷ label.bytes.items =
     front_is rest ∙ marked_first label.bytes.items (spelled_words spellings arguments) (short_name label.bytes.items are.0.0).plain in
-    (1, record { left = rest; is = after_word word rest plain; same = ap (λ (n : Name). 64 ∷ n.bytes.items) (sym same) ∙ sym first })
+    later_word word rest (64 ∷ name.bytes.items) (record { front = []; rest = rest; parts = refl; same = ap (λ (n : Name). 64 ∷ n.bytes.items) (sym same) ∙ sym first })
 
-pub label_word : (version : Version) (instruction : Instruction) (name : Name) → IsInstruction version instruction → label_in instruction.spellings.items ≡ Some name
-    → (count : ℕ) × IsWordBehind count (instruction_text instruction) (64 ∷ name.bytes.items)
-label_word version instruction name is label =
-    let c = instruction.call in
-    let spelled = kept (arguments_of c) is.fits (plain_words c) in
-    word_of_label (name_of c) instruction.spellings.items (program_arguments c) name (plain_named c) is.spelled spelled.fit spelled.plain label
+-- a line that names a label which is nowhere has that word
+nowhere_in : (version : Version) (text : List ℕ) (one : Line) → IsLineOf version one → IsNamedNowhere text one → NamesNowhere text (line_text one)
+nowhere_in version text (line.Label name) is nowhere = absurd nowhere
+nowhere_in version text (line.Instruction instruction) is nowhere = by (label_in instruction.spellings.items) refl nowhere
+  where
+    by : (label : Option Name) → label_in instruction.spellings.items ≡ label → IsNowhere text label → NamesNowhere text (instruction_text instruction)
+    by None e nowhere = absurd nowhere
+    by (Some name) e nowhere = record {
+      name = name.bytes.items;
+      named = word_of_label (name_of instruction.call) instruction.spellings.items (program_arguments instruction.call) name is.spelled e;
+      nowhere = nowhere;
+    }
+
+pub names_nowhere : (version : Version) (text bytes : List ℕ) (spells : SpellsLine version bytes) → IsNamedNowhere text spells.one → NamesNowhere text bytes
+names_nowhere version text bytes spells nowhere = subst (λ (t : List ℕ). NamesNowhere text t) (sym spells.spelled) (nowhere_in version text spells.one spells.fits nowhere)
 
 -- no call is named as a label's line begins
 unlike_label : (c : Call) → bytes_eq (name_of c) (codes "label") ≡ false
@@ -182,9 +184,6 @@ none_mapped : {A B : Type 0} (f : A → B) (found : Option A) → option_map f f
 none_mapped f None e = refl
 none_mapped f (Some x) e = absurd (cc)
 
-some_same : (left right : List ℕ) → Some left ≡ Some right → left ≡ right
-some_same left right e = cc
-
 -- a label that is nowhere for one is nowhere for each that names it
 nowhere : (labels : List (Name × ℕ)) (one other : Instruction) (a b : Option Name) → name_bytes a ≡ name_bytes b → linked_to labels one a ≡ None → linked_to labels other b ≡ None
 nowhere labels one other None b same none = absurd (cc)
@@ -196,7 +195,7 @@ nowhere labels one other (Some name) (Some twin) same none =
     let absent : lookup (same_name twin) labels ≡ None = ap (λ (items : List ℕ). lookup (λ (label : Name). bytes_eq items label.bytes.items) labels) (sym bytes) ∙ found in
     ap (option_map (λ (point : ℕ). record { call = with_point point other.call; spellings = other.spellings })) absent
 
-same_instruction : (one other : Instruction) → line.Instruction one ≡ line.Instruction other → one ≡ other
+pub same_instruction : (one other : Instruction) → line.Instruction one ≡ line.Instruction other → one ≡ other
 same_instruction one other e = cc
 
 -- whether the label of a line is nowhere is told by its text

@@ -1,9 +1,8 @@
 -- The nearest of some names, and of one more.
-use Rattle.std.proofs.Common.{◌≡◌, ◌∙◌, ℕ, ◌+◌, ◌<◌, ◌≤◌, List, [], ◌∷◌, ◌++◌, length, map, take, slice_index_or, Option, Some, None, option_map, suc, Bool, true, false, drop, if◌then◌else◌, add-one, append_assoc, ap, arith, refl, subst, sym}
+use Rattle.std.proofs.Common.{◌≡◌, ◌∙◌, ℕ, ◌+◌, ◌<◌, ◌≤◌, List, [], ◌∷◌, ◌++◌, length, map, take, slice_index_or, Option, Some, None, option_map, suc, Bool, true, false, if◌then◌else◌, add-one, append_assoc, ap, arith, refl, subst, sym}
 use Rattle.std.proofs.Math.Seq.{take-suc}
 use Rattle.std.proofs.lemmas.List.{map-append}
 use Rattle.tx_check.proofs.KnownLabels.{labels_more}
-use Rattle.tx_check.proofs.LineParts.{label_parts}
 use Rattle.tx_check.specs.Labels.{labels_in}
 use Rattle.tx_check.specs.Near.{bound, label_name, label_names, with_name, AreFar, FindsName, FindsNear, IsNear}
 use Rattle.tx_check.specs.Numbered.{after_lines}
@@ -67,42 +66,10 @@ not_nearer word names most edits (Some found) name bound_is far is = (
 pub one_more : {A : Type 0} (name : A → List ℕ) (forms : List A) (at : ℕ) (default : A) → at < length forms → map name (take (at + 1) forms) ≡ map name (take at forms) ++ (name (slice_index_or forms at default) ∷ [])
 one_more name forms at default below = rw add-one (ap (map name) (take-suc forms at default below) ∙ map-append name (take at forms) (slice_index_or forms at default ∷ []))
 
--- the one, or the other where it is none
-abbrev pub or_else : {A : Type 0} → Option A → Option A → Option A
-or_else None other = other
-or_else (Some one) other = Some one
-
--- what is nearest among more names than those that were looked at
-pub found_behind : (word : List ℕ) (names others : List (List ℕ)) (most : ℕ) (nearest found : Option (List ℕ × ℕ)) → FindsNear word names most nearest → FindsNear word others (bound most nearest) found
-    → FindsNear word (names ++ others) most (or_else found nearest)
-found_behind word names others most None None is none = far_append word most names others is none
-found_behind word names others most (Some nearest) None is none = (
-  record {
-    before = is.0.before;
-    after = is.0.after ++ others;
-    parts = ap (λ (t : List (List ℕ)). t ++ others) is.0.parts ∙ append_assoc is.0.before (nearest.0 ∷ is.0.after) others;
-    near = is.0.near;
-    first = is.0.first;
-    least = far_append word nearest.1 is.0.after others is.0.least none;
-  },
-  is.1,
-)
-found_behind word names others most nearest (Some found) is fewer = (
-  record {
-    before = names ++ fewer.0.before;
-    after = fewer.0.after;
-    parts = ap (λ (t : List (List ℕ)). names ++ t) fewer.0.parts ∙ sym (append_assoc names fewer.0.before (found.0 ∷ fewer.0.after));
-    near = fewer.0.near;
-    first = far_append word (found.1 + 1) names fewer.0.before (far_less word (bound most nearest) (found.1 + 1) names (omega (arith, fewer.1)) (all_far word names most nearest is)) fewer.0.first;
-    least = fewer.0.least;
-  },
-  omega (arith, fewer.1, bounded word names most nearest is),
-)
-
 -- without the edits
-pub named : (word : List ℕ) (names : List (List ℕ)) (most : ℕ) (found : Option (List ℕ × ℕ)) → FindsNear word names most found → FindsName word names most (option_map (λ f. f.0) found)
-named word names most None is = is
-named word names most (Some found) is = (found.1, is.0, is.1)
+pub without_edits : (word : List ℕ) (names : List (List ℕ)) (most : ℕ) (found : Option (List ℕ × ℕ)) → FindsNear word names most found → FindsName word names most (option_map (λ f. f.0) found)
+without_edits word names most None is = is
+without_edits word names most (Some found) is = (found.1, is.0, is.1)
 
 -- a line that is a label, and one that is none
 label_begins : (line : List ℕ) → BeginsLabel line → begins_label line ≡ true
@@ -110,13 +77,6 @@ label_begins line is = ap begins_label is.1
 
 pub with_label_name : (line : List ℕ) (names : List (List ℕ)) → BeginsLabel line → with_name line names ≡ names ++ label_name line ∷ []
 with_label_name line names is = rw (label_begins line is) refl
-
-pub with_no_name : (line : List ℕ) (names : List (List ℕ)) → (BeginsLabel line → ⊥) → with_name line names ≡ names
-with_no_name line names none = by (begins_label line) refl
-  where
-    by : (test : Bool) → begins_label line ≡ test → (if test then names ++ label_name line ∷ [] else names) ≡ names
-    by false is = refl
-    by true is = absurd (none (drop 6 line, label_parts line is))
 
 -- one line more
 pub names_more : (count : ℕ) (text : List ℕ) → label_names (suc count) text ≡ with_name (first_line (after_lines count text)) (label_names count text)

@@ -3,7 +3,7 @@ use Rattle.std.proofs.Common.{◌≡◌, ◌∙◌, ◌<◌, ◌≤◌, ℕ, Lis
 use Rattle.tx_lines.specs.Lines.{header_text, FitsHeader}
 use Rattle.tx_lines.specs.Schedule.{after_line, first_line, FaultsAtHeader, FaultsAtNext, SpellsHeader}
 use Rattle.tx_lines.specs.declared.faults.Fault.{Fault}
-use Rattle.tx_lines.specs.declared.faults.Fault.TheVariants.{NotALine, NoLabel, TooLong, Reader, Writer, NoMemory}
+use Rattle.tx_lines.specs.declared.faults.Fault.TheVariants.{NotALine, TooLong}
 use Rattle.tx_lines.specs.declared.read.header.Header.{Header}
 use Rattle.tx_lines.specs.declared.read.header.TextKind.{TextKind}
 use Rattle.tx_check.proofs.EndedLines.{after_ended, first_ended}
@@ -24,10 +24,7 @@ next_right number IsNone count rest (TooLong line) right few is =
     let short = right.short in
     elim is.1 [ inl long ↦ omega (arith, long, short) | inr full ↦ omega (arith, full, few) ]
 next_right number IsNone count rest (NotALine line) right few is = elim is.3 [ inl none ↦ right.ended none | inr other ↦ right.some other ]
-next_right number IsNone count rest (NoLabel line) right few is = is
-next_right number IsNone count rest Reader right few is = is
-next_right number IsNone count rest Writer right few is = is
-next_right number IsNone count rest NoMemory right few is = is
+next_right number IsNone count rest _ right few is = is
 
 pub next_once : (number : ℕ) (IsNone : List ℕ → Type 0) (count : ℕ) (rest : List ℕ) (a b : Fault) → FaultsAtNext number IsNone count rest a → FaultsAtNext number IsNone count rest b → a ≡ b
 next_once number IsNone count rest (TooLong line) (TooLong other) first second = ap TooLong (first.0 ∙ sym second.0)
@@ -38,10 +35,7 @@ next_once number IsNone count rest (NotALine line) (TooLong other) first second 
 next_once number IsNone count rest (NotALine line) (NotALine other) first second = ap NotALine (first.0 ∙ sym second.0)
 next_once number IsNone count rest (TooLong line) b first second = absurd second
 next_once number IsNone count rest (NotALine line) b first second = absurd second
-next_once number IsNone count rest (NoLabel line) b first second = absurd first
-next_once number IsNone count rest Reader b first second = absurd first
-next_once number IsNone count rest Writer b first second = absurd first
-next_once number IsNone count rest NoMemory b first second = absurd first
+next_once number IsNone count rest _ b first second = absurd first
 
 -- headers
 pub header_once : (kind : TextKind) (text : List ℕ) (a b : Fault) → FaultsAtHeader kind text a → FaultsAtHeader kind text b → a ≡ b
@@ -51,19 +45,13 @@ header_once kind text (NotALine line) (TooLong other) first second = absurd (ome
 header_once kind text (NotALine line) (NotALine other) first second = ap NotALine (first.0 ∙ sym second.0)
 header_once kind text (TooLong line) b first second = absurd second
 header_once kind text (NotALine line) b first second = absurd second
-header_once kind text (NoLabel line) b first second = absurd first
-header_once kind text Reader b first second = absurd first
-header_once kind text Writer b first second = absurd first
-header_once kind text NoMemory b first second = absurd first
+header_once kind text _ b first second = absurd first
 
 header_by : (kind : TextKind) (text : List ℕ) (header : Header) (fault : Fault) → FitsHeader header → first_line text ≡ header_text kind header → length (header_text kind header) ≤ 512
     → ((after_line text ≡ None) → ⊥) → FaultsAtHeader kind text fault → ⊥
 header_by kind text header (TooLong line) fits first few ended is = omega (arith, ap length first, few, is.1)
 header_by kind text header (NotALine line) fits first few ended is = elim is.2 [ inl none ↦ ended none | inr other ↦ other header fits first ]
-header_by kind text header (NoLabel line) fits first few ended is = is
-header_by kind text header Reader fits first few ended is = is
-header_by kind text header Writer fits first few ended is = is
-header_by kind text header NoMemory fits first few ended is = is
+header_by kind text header _ fits first few ended is = is
 
 pub header_right : (kind : TextKind) (text : List ℕ) (header : Header) (rest : List ℕ) (fault : Fault) → SpellsHeader kind text header rest → FaultsAtHeader kind text fault → ⊥
 header_right kind text header rest fault spells =

@@ -8,7 +8,7 @@ use Rattle.tx_lines.specs.Programs.{FaultsAmongLines}
 use Rattle.tx_lines.specs.Schedule.{first_line, FaultsAtHeader, FaultsAtNext, IsNoStep}
 use Rattle.tx_lines.specs.Walks.{FaultsAfterHeader, FaultsBeforeCommands, IsNoCommand}
 use Rattle.tx_lines.specs.declared.faults.Fault.{Fault}
-use Rattle.tx_lines.specs.declared.faults.Fault.TheVariants.{NotALine, NoLabel, TooLong, Reader, Writer, NoMemory}
+use Rattle.tx_lines.specs.declared.faults.Fault.TheVariants.{NotALine, NoLabel, TooLong}
 use Rattle.tx_lines.specs.declared.read.header.TextKind.{TextKind}
 use Rattle.tx_lines.specs.declared.read.header.TextKind.TheVariants as texts
 use Rattle.tx_lines.specs.declared.read.header.Version.{Version}
@@ -27,25 +27,19 @@ header_line : (kind : TextKind) (text : List ℕ) (fault : Fault) → FaultsAtHe
 header_line kind text (NotALine line) is = omega (arith, is.0)
 header_line kind text (NoLabel line) is = absurd is
 header_line kind text (TooLong line) is = omega (arith, is.0)
-header_line kind text NoMemory is = absurd is
-header_line kind text Reader is = absurd is
-header_line kind text Writer is = absurd is
+header_line kind text _ is = absurd is
 
 next_line : (number : ℕ) (IsNone : List ℕ → Type 0) (count : ℕ) (rest : List ℕ) (fault : Fault) → 1 ≤ number → FaultsAtNext number IsNone count rest fault → 1 ≤ line_of fault
 next_line number IsNone count rest (NotALine line) some is = omega (arith, some, is.0)
 next_line number IsNone count rest (NoLabel line) some is = absurd is
 next_line number IsNone count rest (TooLong line) some is = omega (arith, some, is.0)
-next_line number IsNone count rest NoMemory some is = absurd is
-next_line number IsNone count rest Reader some is = absurd is
-next_line number IsNone count rest Writer some is = absurd is
+next_line number IsNone count rest _ some is = absurd is
 
 line_before : (version : Version) (count : ℕ) (rest : List ℕ) (fault : Fault) → FaultsBeforeCommands version count rest fault → 1 ≤ line_of fault
 line_before version count rest (NotALine line) is = omega (arith, is.0)
 line_before version count rest (NoLabel line) is = absurd is
 line_before version count rest (TooLong line) is = omega (arith, is.0)
-line_before version count rest NoMemory is = absurd is
-line_before version count rest Reader is = absurd is
-line_before version count rest Writer is = absurd is
+line_before version count rest _ is = absurd is
 
 line_of_walk : (version : Version) (text : List ℕ) (fault : Fault) → FaultsAfterHeader version text fault → 1 ≤ line_of fault
 line_of_walk version text fault (inl among) = line_before version (length among.before) among.rest fault among.fault_after
@@ -56,9 +50,7 @@ line_of_program : (version : Version) (text : List ℕ) (fault : Fault) → Faul
 line_of_program version text (NotALine line) is = omega (arith, is.fault_after.1)
 line_of_program version text (NoLabel line) is = omega (arith, is.first.same)
 line_of_program version text (TooLong line) is = omega (arith, is.fault_after.1)
-line_of_program version text NoMemory is = absurd is.fault_after
-line_of_program version text Reader is = absurd is.fault_after
-line_of_program version text Writer is = absurd is.fault_after
+line_of_program version text _ is = absurd is.fault_after
 
 -- lines count from 1
 pub some_line : (kind : Kind) (text : List ℕ) (fault : Fault) → IsAtFault kind text fault → 1 ≤ line_of fault

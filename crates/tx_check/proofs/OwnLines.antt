@@ -15,7 +15,7 @@ use Rattle.tx_check.proofs.Appended.{fewer, last_known, more_told}
 use Rattle.tx_check.proofs.ToldOf.{are_one, told_fault}
 use Rattle.tx_lines.specs.Schedule.{first_line}
 use Rattle.tx_lines.specs.declared.faults.Fault.{Fault}
-use Rattle.tx_lines.specs.declared.faults.Fault.TheVariants.{NotALine, NoLabel, TooLong, Reader, Writer, NoMemory}
+use Rattle.tx_lines.specs.declared.faults.Fault.TheVariants.{NotALine, NoLabel, TooLong}
 use Rattle.tx_plain.specs.Lines.{plain_line, stage_after}
 use Rattle.tx_plain.specs.Meant.{fault_by, meant_of, own_line, IsOwnFault}
 use Rattle.tx_plain.specs.MeantLines.{left_of}
@@ -162,9 +162,7 @@ pub own_number : (lines : ℕ → ℕ) (fault : Fault) → 1 ≤ line_of fault �
 own_number lines (NotALine line) some = refl
 own_number lines (NoLabel line) some = refl
 own_number lines (TooLong line) some = refl
-own_number lines Reader some = absurd (omega (arith, some))
-own_number lines Writer some = absurd (omega (arith, some))
-own_number lines NoMemory some = absurd (omega (arith, some))
+own_number lines _ some = absurd (omega (arith, some))
 
 -- where fewer lines are wanted
 pub told_fewer : {A E : Type 0} (bytes : A → List ℕ) (result : Result A E) (IsWanted IsLess : ℕ → Type 0) (text : List ℕ) (number : ℕ) → ((meant : ℕ) → IsLess meant → IsWanted meant)

@@ -12,7 +12,7 @@ use Rattle.tx_check.proofs.ShortLines.{short_line}
 use Rattle.tx_lines.specs.Programs.{instructions_of, labels_of, line_text, linked, same_name, AreLines, FaultsAfterLines, FaultsAmongLines, FaultsAtProgramLine, IsFirstUser, IsLineOf, IsNoLineOf, IsPastLines, IsSecondLabel, IsUser}
 use Rattle.tx_lines.specs.Schedule.{after_line, first_line}
 use Rattle.tx_lines.specs.declared.faults.Fault.{Fault}
-use Rattle.tx_lines.specs.declared.faults.Fault.TheVariants.{NotALine, NoLabel, TooLong, Reader, Writer, NoMemory}
+use Rattle.tx_lines.specs.declared.faults.Fault.TheVariants.{NotALine, NoLabel, TooLong}
 use Rattle.tx_lines.specs.declared.instructions.Instruction.{Instruction}
 use Rattle.tx_lines.specs.declared.instructions.Line.{Line}
 use Rattle.tx_lines.specs.declared.instructions.Line.TheVariants as line
@@ -68,9 +68,7 @@ line_right version before rest (TooLong number) right some past second is = elim
 line_right version before rest (NotALine number) right some past second is =
     elim is.4 [ inl none ↦ right.ended none | inr other ↦ elim other [ inl none ↦ right.some none | inr twice ↦ second twice ] ]
 line_right version before rest (NoLabel number) right some past second is = some is.0
-line_right version before rest Reader right some past second is = is
-line_right version before rest Writer right some past second is = is
-line_right version before rest NoMemory right some past second is = is
+line_right version before rest _ right some past second is = is
 
 some_rest : (rest behind : List ℕ) → after_line rest ≡ Some behind → rest ≢ []
 some_rest rest behind after none = let bad : after_line [] ≡ Some behind = subst (λ (r : List ℕ). after_line r ≡ Some behind) none after in absurd (cc)
@@ -165,9 +163,7 @@ here_once version ones others rest (NotALine number) (NoLabel twin) are twins sa
 here_once version ones others rest (TooLong number) b are twins same first second = absurd second
 here_once version ones others rest (NotALine number) b are twins same first second = absurd second
 here_once version ones others rest (NoLabel number) b are twins same first second = absurd second
-here_once version ones others rest Reader b are twins same first second = absurd first
-here_once version ones others rest Writer b are twins same first second = absurd first
-here_once version ones others rest NoMemory b are twins same first second = absurd first
+here_once version ones others rest _ b are twins same first second = absurd first
 
 program_once : (version : Version) (lines : List (List ℕ)) (rest : List ℕ) (a b : Fault) → FaultsInProgram version lines rest a → FaultsInProgram version lines rest b → a ≡ b
 program_once version lines rest a b first second =
@@ -190,9 +186,7 @@ ends_by version ones others made (NoLabel number) are twins same all is =
     mapped (x ∷ xs) ys = ap (λ (ls : List (List ℕ)). line_text x ∷ ls) (mapped xs ys)
 ends_by version ones others made (TooLong number) are twins same all is = is.0 refl
 ends_by version ones others made (NotALine number) are twins same all is = is.0 refl
-ends_by version ones others made Reader are twins same all is = is
-ends_by version ones others made Writer are twins same all is = is
-ends_by version ones others made NoMemory are twins same all is = is
+ends_by version ones others made _ are twins same all is = is
 
 program_ends : (version : Version) (lines : List (List ℕ)) (fault : Fault) → IsWholeProgram version lines → FaultsInProgram version lines [] fault → ⊥
 program_ends version lines fault whole faults =
@@ -230,6 +224,4 @@ program_faulty version text (NoLabel number) found = record {
   parts = found.spelled ∙ spelled_lines line_text found.lines ∙ sym (append-nil (with_ends (map line_text found.lines)));
   next = record { begins = record { ones = found.lines; same = refl; are = found.good }; fault_after = (refl, found.first) };
 }
-program_faulty version text Reader found = absurd found.fault_after
-program_faulty version text Writer found = absurd found.fault_after
-program_faulty version text NoMemory found = absurd found.fault_after
+program_faulty version text _ found = absurd found.fault_after

@@ -7,15 +7,15 @@ use Rattle.tx_check.proofs.ProgramTexts.{program_faulty, program_grammar, IsWhol
 use Rattle.tx_check.proofs.SameHeaders.{same_header}
 use Rattle.tx_check.proofs.SteppedTexts.{schedule_faulty, schedule_grammar, BeginsSteps}
 use Rattle.tx_check.proofs.WalkedTexts.{before_lines, walk_faulty, walk_grammar, BeginsCommands}
-use Rattle.tx_check.specs.Behind.{FaultsBehind}
+use Rattle.tx_check.proofs.ReadTexts.{same_fault, FaultsBehind, IsFault}
 use Rattle.tx_check.specs.Kinds.{head_of}
 use Rattle.tx_check.specs.Laws.{NoneHasTwo, NoneIsBoth}
-use Rattle.tx_check.specs.Reads.{IsAtFault, IsRead}
+use Rattle.tx_check.specs.Reads.{IsRead}
 use Rattle.tx_check.specs.declared.kinds.Kind.{Kind}
 use Rattle.tx_check.specs.declared.kinds.Kind.TheVariants as kinds
 use Rattle.tx_lines.specs.Lines.{step_text}
 use Rattle.tx_lines.specs.Programs.{line_text}
-use Rattle.tx_lines.specs.Schedule.{lines_of, steps_text, FaultsAtHeader, SpellsHeader}
+use Rattle.tx_lines.specs.Schedule.{lines_of, steps_text, SpellsHeader}
 use Rattle.tx_lines.specs.Walks.{before_commands, command_text, debug_line}
 use Rattle.tx_lines.specs.declared.faults.Fault.{Fault}
 use Rattle.tx_lines.specs.declared.read.header.Header.{Header}
@@ -85,15 +85,6 @@ one_later : (kind : Kind) (version : Version) (rest : List ℕ) (a b : Fault) �
 one_later kinds.Schedule version rest a b first second = one_fault (schedule_grammar version) rest a b (schedule_faulty version rest a first) (schedule_faulty version rest b second)
 one_later kinds.Walk version rest a b first second = one_fault (walk_grammar version) rest a b (walk_faulty version rest a first) (walk_faulty version rest b second)
 one_later kinds.Program version rest a b first second = one_fault (program_grammar version) rest a b (program_faulty version rest a first) (program_faulty version rest b second)
-
--- a text is at fault at its header, or after it
-abbrev IsFault : Kind → List ℕ → Fault → Type 0
-IsFault kind text fault = FaultsAtHeader (head_of kind) text fault ⊎ ((header : Header) × (rest : List ℕ) × SpellsHeader (head_of kind) text header rest × FaultsBehind kind header.version rest fault)
-
-same_fault : (kind : Kind) (text : List ℕ) (fault : Fault) → IsAtFault kind text fault → IsFault kind text fault
-same_fault kinds.Schedule text fault is = is
-same_fault kinds.Walk text fault is = is
-same_fault kinds.Program text fault is = is
 
 never : (kind : Kind) (text : List ℕ) (fault : Fault) → IsWhole kind text → IsFault kind text fault → ⊥
 never kind text fault all (inl header) = header_right (head_of kind) text all.header all.rest fault all.spells header

@@ -1,21 +1,24 @@
--- A text whose lines are those of its kind is read.
-use Rattle.std.proofs.Common.{◌≡◌, ◌∙◌, ◌⊎◌, ℕ, ◌≤◌, List, ◌++◌, ◌∷◌, Option, Some, None, length, map, refl, ap, arith, inl, inr}
+-- A text whose lines are those of its kind is read, and one of which they are not is at fault.
+use Rattle.std.proofs.Common.{◌≡◌, ◌∙◌, ◌⊎◌, ℕ, ◌≤◌, List, ◌++◌, ◌∷◌, Option, Some, length, map, refl, ap, arith, inl, inr}
 use Rattle.std.proofs.lemmas.List.{length-map}
 use Rattle.std.specs.declared.alloc.Global.{Global}
-use Rattle.std.specs.Prelude.{MatchOption, Vec}
+use Rattle.std.specs.Prelude.{Vec}
 use Rattle.indexmap.specs.Layout.{hash_map}
 use denote.RawPtr.{null_ptr}
-use Rattle.tx_check.specs.Behind.{AreLinesBehind, AreLinked, AreStepLines, AreWalkLines, FaultsBehind}
+use Rattle.tx_base.specs.declared.steps.Step.{Step}
+use Rattle.tx_check.specs.Behind.{AreProgramLines, IsReadBut}
 use Rattle.tx_check.specs.Kinds.{head_of}
-use Rattle.tx_check.specs.Reads.{Finds, IsRead}
+use Rattle.tx_check.specs.Reads.{IsAtFault, IsRead}
 use Rattle.tx_check.specs.declared.kinds.Kind.{Kind}
 use Rattle.tx_check.specs.declared.kinds.Kind.TheVariants as kinds
-use Rattle.tx_lines.specs.Lines.{header_text}
-use Rattle.tx_lines.specs.Programs.{instructions_of, labels_of, linked, AreLines}
-use Rattle.tx_lines.specs.Schedule.{SpellsHeader}
+use Rattle.tx_lines.specs.Lines.{header_text, step_text}
+use Rattle.tx_lines.specs.Programs.{instructions_of, labels_of, linked, AreLines, FaultsAmongLines}
+use Rattle.tx_lines.specs.Schedule.{lines_of, steps_text, AreSteps, FaultsAmong, FaultsAtHeader, FaultsAtStep, SpellsHeader}
+use Rattle.tx_lines.specs.Walks.{before_commands, command_text, AreCommands, FaultsAfterHeader}
 use Rattle.tx_lines.specs.declared.faults.Fault.{Fault}
 use Rattle.tx_lines.specs.declared.instructions.Instruction.{Instruction}
 use Rattle.tx_lines.specs.declared.instructions.Line.{Line}
+use Rattle.tx_lines.specs.declared.read.command.Command.{Command}
 use Rattle.tx_lines.specs.declared.read.header.Header.{Header}
 use Rattle.tx_lines.specs.declared.read.header.Version.{Version}
 use Rattle.tx_lines.specs.declared.read.header.TextKind.TheVariants as texts
@@ -32,23 +35,21 @@ vec_of xs few = record {
   small = omega (arith, few);
 }
 
-schedule_read : (text : List ℕ) (header : Header) (rest : List ℕ) → SpellsHeader texts.Schedule text header rest → AreStepLines header.version rest → IsRead kinds.Schedule text
+pub schedule_read : (text : List ℕ) (header : Header) (rest : List ℕ) (steps : List Step) → SpellsHeader texts.Schedule text header rest → AreSteps header.version steps → rest ≡ steps_text steps → IsRead kinds.Schedule text
 unfolding vec_of
-schedule_read text header rest spells lines = (
-  record { header = header; steps = vec_of lines.steps lines.are.few },
-  (spells.spelled ∙ ap (λ (t : List ℕ). header_text texts.Schedule header ++ 10 ∷ t) lines.spelled, record { header_fits = spells.fits; steps_fit = lines.are }),
+schedule_read text header rest steps spells are spelled = (
+  record { header = header; steps = vec_of steps are.few },
+  (spells.spelled ∙ ap (λ (t : List ℕ). header_text texts.Schedule header ++ 10 ∷ t) spelled, record { header_fits = spells.fits; steps_fit = are }),
 )
 
-walk_read : (text : List ℕ) (header : Header) (rest : List ℕ) → SpellsHeader texts.Schedule text header rest → AreWalkLines header.version rest → IsRead kinds.Walk text
+pub walk_read : (text : List ℕ) (header : Header) (rest : List ℕ) (steps : List Step) (commands : List Command) → SpellsHeader texts.Schedule text header rest → AreSteps header.version steps → AreCommands header.version commands
+    → rest ≡ before_commands steps (lines_of command_text commands) → IsRead kinds.Walk text
 unfolding vec_of
-walk_read text header rest spells lines = (
-  record {
-    schedule = record { header = header; steps = vec_of lines.steps lines.are_steps.few };
-    commands = vec_of lines.commands lines.are_commands.few;
-  },
+walk_read text header rest steps commands spells are_steps are_commands spelled = (
+  record { schedule = record { header = header; steps = vec_of steps are_steps.few }; commands = vec_of commands are_commands.few },
   (
-    spells.spelled ∙ ap (λ (t : List ℕ). header_text texts.Schedule header ++ 10 ∷ t) lines.spelled,
-    record { schedule_fits = record { header_fits = spells.fits; steps_fit = lines.are_steps }; commands_fit = lines.are_commands },
+    spells.spelled ∙ ap (λ (t : List ℕ). header_text texts.Schedule header ++ 10 ∷ t) spelled,
+    record { schedule_fits = record { header_fits = spells.fits; steps_fit = are_steps }; commands_fit = are_commands },
   ),
 )
 
@@ -59,32 +60,43 @@ few_made version lines made are same =
     some : Instruction → Option Instruction
     some = Some
 
-program_read : (text : List ℕ) (header : Header) (rest : List ℕ) → SpellsHeader texts.Program text header rest → AreLinked header.version rest → IsRead kinds.Program text
+pub program_read : (text : List ℕ) (header : Header) (rest : List ℕ) (all : AreProgramLines header.version rest) (made : List Instruction) → SpellsHeader texts.Program text header rest
+    → map (linked (labels_of all.lines)) (instructions_of all.lines) ≡ map Some made → IsRead kinds.Program text
 unfolding vec_of
-program_read text header rest spells is = (
+program_read text header rest all made spells is = (
   record {
     header = header;
-    instructions = vec_of is.made (few_made header.version is.all.lines is.made is.all.are is.linked_all);
-    labels = hash_map (labels_of is.all.lines) (record { initial = record { state = 0 } }) 0;
+    instructions = vec_of made (few_made header.version all.lines made all.are is);
+    labels = hash_map (labels_of all.lines) (record { initial = record { state = 0 } }) 0;
   },
   (
-    is.all.lines,
-    record { header_fits = spells.fits; lines_fit = is.all.are; labels = refl; instructions = is.linked_all },
-    spells.spelled ∙ ap (λ (t : List ℕ). header_text texts.Program header ++ 10 ∷ t) is.all.spelled,
+    all.lines,
+    record { header_fits = spells.fits; lines_fit = all.are; labels = refl; instructions = is },
+    spells.spelled ∙ ap (λ (t : List ℕ). header_text texts.Program header ++ 10 ∷ t) all.spelled,
   ),
 )
 
--- a text with the lines of its kind behind its header
-pub all_read : (kind : Kind) (text : List ℕ) (header : Header) (rest : List ℕ) → SpellsHeader (head_of kind) text header rest → AreLinesBehind kind header.version rest → (kind ≡ kinds.Schedule) ⊎ (kind ≡ kinds.Walk) → IsRead kind text
-all_read kinds.Schedule text header rest spells lines is = schedule_read text header rest spells lines
-all_read kinds.Walk text header rest spells lines is = walk_read text header rest spells lines
-all_read kinds.Program text header rest spells lines (inl is) = absurd (cc)
-all_read kinds.Program text header rest spells lines (inr is) = absurd (cc)
+-- a text of steps alone has no labels
+pub but_read : (kind : Kind) (text : List ℕ) (version : Version) (rest : List ℕ) → IsReadBut kind text version rest → (kind ≡ kinds.Schedule) ⊎ (kind ≡ kinds.Walk) → IsRead kind text
+but_read kinds.Program text version rest but (inl is) = absurd (cc)
+but_read kinds.Program text version rest but (inr is) = absurd (cc)
+but_read _ text version rest but is = but
 
--- a program, with its labels
-pub labels_read : (kind : Kind) (text : List ℕ) (header : Header) (rest : List ℕ) (found : Option Fault) → kind ≡ kinds.Program → SpellsHeader (head_of kind) text header rest
-    → MatchOption found (AreLinked header.version rest) (FaultsBehind kinds.Program header.version rest) → Finds kind text found
-labels_read kinds.Schedule text header rest found is spells by = absurd (cc)
-labels_read kinds.Walk text header rest found is spells by = absurd (cc)
-labels_read kinds.Program text header rest None is spells linked = program_read text header rest spells linked
-labels_read kinds.Program text header rest (Some fault) is spells faults = inr (header, rest, spells, faults)
+-- what follows a header is at fault, and so a text is: at its header, or after it
+abbrev pub FaultsBehind : Kind → Version → List ℕ → Fault → Type 0
+FaultsBehind kinds.Schedule version rest fault = FaultsAmong step_text (AreSteps version) (FaultsAtStep version) rest fault
+FaultsBehind kinds.Walk version rest fault = FaultsAfterHeader version rest fault
+FaultsBehind kinds.Program version rest fault = FaultsAmongLines version rest fault
+
+abbrev pub IsFault : Kind → List ℕ → Fault → Type 0
+IsFault kind text fault = FaultsAtHeader (head_of kind) text fault ⊎ ((header : Header) × (rest : List ℕ) × SpellsHeader (head_of kind) text header rest × FaultsBehind kind header.version rest fault)
+
+pub same_fault : (kind : Kind) (text : List ℕ) (fault : Fault) → IsAtFault kind text fault → IsFault kind text fault
+same_fault kinds.Schedule text fault is = is
+same_fault kinds.Walk text fault is = is
+same_fault kinds.Program text fault is = is
+
+pub fault_behind : (kind : Kind) (text : List ℕ) (header : Header) (rest : List ℕ) (fault : Fault) → SpellsHeader (head_of kind) text header rest → FaultsBehind kind header.version rest fault → IsAtFault kind text fault
+fault_behind kinds.Schedule text header rest fault spells is = inr (header, rest, spells, is)
+fault_behind kinds.Walk text header rest fault spells is = inr (header, rest, spells, is)
+fault_behind kinds.Program text header rest fault spells is = inr (header, rest, spells, is)

@@ -25,7 +25,7 @@ by_test false byte so = refl
 no_end : (byte : ℕ) → (nat_eq byte 32 || is_ascii_graphic byte) ≡ true → is_no_end byte ≡ true
 no_end byte is = rw (ne_eqb byte 10 (λ e. both_ways false refl (subst (λ (b : ℕ). (nat_eq b 32 || is_ascii_graphic b) ≡ true) e is))) refl
 
-shown_in_line : (bytes : List ℕ) → IsInLine (map shown bytes)
+pub shown_in_line : (bytes : List ℕ) → IsInLine (map shown bytes)
 shown_in_line [] = refl
 shown_in_line (byte ∷ bytes) = rw (by_test (nat_eq byte 32 || is_ascii_graphic byte) byte (no_end byte), shown_in_line bytes) refl
 

@@ -1,5 +1,5 @@
 -- The spelling of each header, step, command and line of a program stands in one line, and has at most 512 bytes.
-use Rattle.std.proofs.Common.{◌≡◌, ℕ, ◌+◌, ◌<◌, ◌≤◌, ◌^◌, true, false, not, ◌&&◌, nat_eq, nat_le, List, [], ◌∷◌, ◌++◌, codes, length, map, refl, ◌∙◌, arith, length-append, leb-true}
+use Rattle.std.proofs.Common.{◌≡◌, ℕ, ◌+◌, ◌<◌, ◌≤◌, ◌^◌, Bool, true, false, not, ◌&&◌, nat_eq, nat_le, List, [], ◌∷◌, ◌++◌, codes, length, map, refl, ◌∙◌, arith, length-append, leb-true}
 use Rattle.std.proofs.lemmas.List.Folds.{list_all-append}
 use Rattle.std.specs.Fmt.{decimal}
 use Rattle.std.specs.List.{filter, list_all}
@@ -26,7 +26,7 @@ use Rattle.tx_lines.specs.declared.instructions.Line.TheVariants as line
 use Rattle.tx_lines.specs.declared.instructions.Spelling.{Spelling}
 use Rattle.tx_lines.specs.declared.instructions.Spelling.TheVariants.{Plain, Slot, Label}
 use Rattle.tx_lines.specs.declared.read.command.Command.{Command}
-use Rattle.tx_lines.specs.declared.read.command.Command.TheVariants.{Back, Forward, Goto, State, Moved}
+use Rattle.tx_lines.specs.declared.read.command.Command.TheVariants.{Goto, Moved}
 use Rattle.tx_lines.specs.declared.read.header.Header.{Header}
 use Rattle.tx_lines.specs.declared.read.header.TextKind.{TextKind}
 use Rattle.tx_lines.specs.declared.read.header.TextKind.TheVariants as kinds
@@ -71,43 +71,37 @@ rooms [] = 0
 rooms (argument ∷ arguments) = room argument + 1 + rooms arguments
 
 -- as the table of calls says, row by row: names and words are plain, and no call is long
+abbrev is_tabled : Call → Bool
+is_tabled c = list_all is_plain (name_of c) && (list_all has_plain (arguments_of c) && nat_le (length (name_of c) + rooms (arguments_of c)) 500)
+
+tabled : (c : Call) → is_tabled c ≡ true
+tabled (call.Protect page false) = refl
+tabled (call.Protect page true) = refl
+tabled (call.Waitpid target false) = refl
+tabled (call.Waitpid target true) = refl
+tabled (call.SetNonblock fd false) = refl
+tabled (call.SetNonblock fd true) = refl
+tabled (call.Sigaction signo Usual) = refl
+tabled (call.Sigaction signo Ignore) = refl
+tabled (call.Sigaction signo (Catch point mask)) = refl
+tabled (call.Sigprocmask how.Block set) = refl
+tabled (call.Sigprocmask how.Unblock set) = refl
+tabled (call.Sigprocmask how.Set set) = refl
+tabled (call.Jump point Always) = refl
+tabled (call.Jump point (IfRet ret)) = refl
+tabled _ = refl
+
 pub plain_named : (c : Call) → list_all is_plain (name_of c) ≡ true
-plain_named (call.Map page) = refl
-plain_named _ = refl
+plain_named c = (both_true (list_all is_plain (name_of c)) _ (tabled c)).0
+
+arguments_tabled : (c : Call) → (list_all has_plain (arguments_of c) && nat_le (length (name_of c) + rooms (arguments_of c)) 500) ≡ true
+arguments_tabled c = (both_true (list_all is_plain (name_of c)) _ (tabled c)).1
 
 pub plain_words : (c : Call) → list_all has_plain (arguments_of c) ≡ true
-plain_words (call.Protect page false) = refl
-plain_words (call.Protect page true) = refl
-plain_words (call.Waitpid target false) = refl
-plain_words (call.Waitpid target true) = refl
-plain_words (call.SetNonblock fd false) = refl
-plain_words (call.SetNonblock fd true) = refl
-plain_words (call.Sigaction signo Usual) = refl
-plain_words (call.Sigaction signo Ignore) = refl
-plain_words (call.Sigaction signo (Catch point mask)) = refl
-plain_words (call.Sigprocmask how.Block set) = refl
-plain_words (call.Sigprocmask how.Unblock set) = refl
-plain_words (call.Sigprocmask how.Set set) = refl
-plain_words (call.Jump point Always) = refl
-plain_words (call.Jump point (IfRet ret)) = refl
-plain_words _ = refl
+plain_words c = (both_true (list_all has_plain (arguments_of c)) _ (arguments_tabled c)).0
 
 has_room : (c : Call) → nat_le (length (name_of c) + rooms (arguments_of c)) 500 ≡ true
-has_room (call.Protect page false) = refl
-has_room (call.Protect page true) = refl
-has_room (call.Waitpid target false) = refl
-has_room (call.Waitpid target true) = refl
-has_room (call.SetNonblock fd false) = refl
-has_room (call.SetNonblock fd true) = refl
-has_room (call.Sigaction signo Usual) = refl
-has_room (call.Sigaction signo Ignore) = refl
-has_room (call.Sigaction signo (Catch point mask)) = refl
-has_room (call.Sigprocmask how.Block set) = refl
-has_room (call.Sigprocmask how.Unblock set) = refl
-has_room (call.Sigprocmask how.Set set) = refl
-has_room (call.Jump point Always) = refl
-has_room (call.Jump point (IfRet ret)) = refl
-has_room _ = refl
+has_room c = (both_true (list_all has_plain (arguments_of c)) _ (arguments_tabled c)).1
 
 -- the words of a call that fits
 record AreShort (words : List (List ℕ)) (most : ℕ) : Type 0 where
@@ -210,15 +204,13 @@ short_step (steps.KernelAbort starter) fits =
     number_after (codes "kernel ") 5 starter.0 refl (omega arith) (omega arith) (omega arith) (omega arith)
 
 pub short_command : (version : Version) (command : Command) → FitsCommand version command → IsShort (command_text command)
-short_command version Back fits = record { in_line = refl; few = omega arith }
-short_command version Forward fits = record { in_line = refl; few = omega arith }
 short_command version (Goto position) fits =
     let small : position < 2 ^ 63 = fits in
     number_after (codes "goto ") 19 position refl (omega arith) (omega arith) (omega arith) (omega arith)
-short_command version State fits = record { in_line = refl; few = omega arith }
 short_command version (Moved number) fits =
     let small : number < 2 ^ 63 = fits.1 in
     number_after (codes "moved ") 19 number refl (omega arith) (omega arith) (omega arith) (omega arith)
+short_command version _ fits = record { in_line = refl; few = omega arith }
 
 pub short_line : (version : Version) (one : Line) → IsLineOf version one → IsShort (line_text one)
 short_line version (line.Label name) is =

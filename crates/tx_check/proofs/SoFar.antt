@@ -8,7 +8,8 @@ use Rattle.std.specs.Str.{bytes_eq}
 use Rattle.tx_base.specs.declared.steps.Step.{Step}
 use Rattle.tx_check.proofs.Growing.{none_by, some_by}
 use Rattle.tx_check.proofs.LabelsFound.{found_label, labelled, HasLines, IsLabelled}
-use Rattle.tx_check.specs.Behind.{FaultsBehind, IsFaultAt, IsNoLineAt}
+use Rattle.tx_check.proofs.ReadTexts.{FaultsBehind}
+use Rattle.tx_check.specs.Behind.{IsFaultAt, IsNoLineAt}
 use Rattle.tx_check.specs.Kinds.{begins_with_debug, debug_ahead, has_debug}
 use Rattle.tx_check.specs.Numbered.{behind}
 use Rattle.tx_check.specs.Right.{IsNoneThere, IsRight, IsTooMany}
@@ -24,7 +25,7 @@ use Rattle.tx_lines.specs.Programs.{instructions_of, label_front, labels_of, lin
 use Rattle.tx_lines.specs.Schedule.{after_line, first_line, lines_of, steps_text, AreSteps, FaultsAtNext, IsNoStep, SpellsHeader}
 use Rattle.tx_lines.specs.Walks.{before_commands, command_text, debug_line, AreCommands, FaultsBeforeCommands, IsNoCommand}
 use Rattle.tx_lines.specs.declared.faults.Fault.{Fault}
-use Rattle.tx_lines.specs.declared.faults.Fault.TheVariants.{NotALine, NoLabel, TooLong, Reader, Writer, NoMemory}
+use Rattle.tx_lines.specs.declared.faults.Fault.TheVariants.{NotALine, TooLong}
 use Rattle.tx_lines.specs.declared.instructions.Line.{Line}
 use Rattle.tx_lines.specs.declared.read.command.Command.{Command}
 use Rattle.tx_lines.specs.declared.read.header.Header.{Header}
@@ -166,10 +167,7 @@ schedule_fault version text rest number place left next fault so is at = record 
       room 4096 place.count (length so.0.steps) (omega arith) so.0.are.few so.0.stands.1 (λ enough. part_few place parts.Step next.bytes.now so.0.stands.0 at.2 (enough, other)),
       elim (line_none version number text left place next parts.Step is so.0.stands.0 (λ same. absurd (cc)) at.3) [ inl none ↦ inl none | inr none ↦ inr none.0 ],
     )
-    by (NoLabel line) at = at
-    by Reader at = at
-    by Writer at = at
-    by NoMemory at = at
+    by _ at = at
 
 -- after some steps before commands
 before_fault : (version : Version) (text rest : List ℕ) (number : ℕ) (place : Place) (left : List ℕ) (next : TextLine) (fault : Fault) → StepsSoFar version rest number place left → IsNext version number place left next
@@ -202,10 +200,7 @@ before_fault version text rest number place left next fault so is at = inl (reco
       (λ past. part_few place parts.Step next.bytes.now so.stands.0 at.2 (omega (arith, past.most, so.stands.1), λ same. past.other (sym is.bytes ∙ same))),
       line_none version number text left place next parts.Step is so.stands.0 (λ same. absurd (cc)) at.3,
     )
-    by (NoLabel line) at = at
-    by Reader at = at
-    by Writer at = at
-    by NoMemory at = at
+    by _ at = at
 
 -- after some commands
 command_fault : (version : Version) (text rest : List ℕ) (number : ℕ) (place : Place) (left : List ℕ) (next : TextLine) (fault : Fault) → CommandsSoFar version rest number place left → IsNext version number place left next
@@ -232,10 +227,7 @@ command_fault version text rest number place left next fault so is at = inr (
       room 4096 place.count (length so.commands) (omega arith) so.are_commands.few so.stands.1 (part_few place parts.Command next.bytes.now so.stands.0 at.2),
       line_none version number text left place next parts.Command is so.stands.0 (λ same. absurd (cc)) at.3,
     )
-    by (NoLabel line) at = at
-    by Reader at = at
-    by Writer at = at
-    by NoMemory at = at
+    by _ at = at
 
 pub walk_fault : (version : Version) (text rest : List ℕ) (number : ℕ) (place : Place) (left : List ℕ) (next : TextLine) (fault : Fault) → SoFar kinds.Walk version rest number place left → IsNext version number place left next
     → IsFaultAt text place next fault → FaultsBehind kinds.Walk version rest fault
@@ -330,7 +322,4 @@ program_fault version text rest header number place left next fault spells so is
         why at.3,
       );
     }
-    by (NoLabel line) at = absurd at
-    by Reader at = absurd at
-    by Writer at = absurd at
-    by NoMemory at = absurd at
+    by _ at = absurd at

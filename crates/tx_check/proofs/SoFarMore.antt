@@ -9,12 +9,14 @@ use Rattle.tx_check.proofs.Labelled.{counts, instructions_both, labels_both}
 use Rattle.tx_check.proofs.LabelsFound.{distinct_more, label_at, HasLines, IsLabelled}
 use Rattle.tx_check.proofs.LineParts.{label_parts}
 use Rattle.tx_check.proofs.NamedLabels.{no_label}
+use Rattle.tx_check.proofs.ReadTexts.{fault_behind, schedule_read, walk_read}
 use Rattle.tx_check.proofs.ShortLines.{short_header}
 use Rattle.tx_check.proofs.SoFar.{counts_by, debug_later, has_lines, later_debug, later_or, no_debug_line, none_or, not_debug, part_few, part_right, program_fault, room, schedule_fault, walk_fault, CommandsSoFar, IsNext, LinesSoFar, SoFar, StepsSoFar}
 use Rattle.tx_check.proofs.WalkedTexts.{no_debug}
-use Rattle.tx_check.specs.Behind.{AreLinesBehind, FaultsBehind, IsFaultAt, MayStand}
+use Rattle.tx_check.specs.Behind.{IsFaultAt, IsReadBut, MayStand}
 use Rattle.tx_check.specs.Kinds.{begins_with_debug, debug_ahead, has_debug, head_of, is_program_head, kind_of}
 use Rattle.tx_check.specs.Numbered.{behind}
+use Rattle.tx_check.specs.Reads.{IsAtFault}
 use Rattle.tx_check.specs.Right.{IsTooMany, SpellsCommand, SpellsLine, SpellsStep}
 use Rattle.tx_check.specs.Stands.{begins_label, stand_after, AmongCommands, AmongLines, AmongSteps, AtHeader, IsPlaceOf, Stand}
 use Rattle.tx_check.specs.Wrong.{IsTwice}
@@ -222,11 +224,14 @@ so_far_more kinds.Walk version text rest header number place later left next spe
 so_far_more kinds.Program version text rest header number place later left next spells so is may goes =
     lines_more version text rest header number place later left next spells so is may goes (part_right version place parts.ProgramLine next.bytes.now is.of so.part may.right)
 
-pub so_far_fault : (kind : Kind) (version : Version) (text rest : List ℕ) (header : Header) (number : ℕ) (place : Place) (left : List ℕ) (next : TextLine) (fault : Fault) → SpellsHeader (head_of kind) text header rest → SoFar kind version rest number place left
-    → IsNext version number place left next → IsFaultAt text place next fault → FaultsBehind kind version rest fault
-so_far_fault kinds.Schedule version text rest header number place left next fault spells so is at = schedule_fault version text rest number place left next fault so is at
-so_far_fault kinds.Walk version text rest header number place left next fault spells so is at = walk_fault version text rest number place left next fault so is at
-so_far_fault kinds.Program version text rest header number place left next fault spells so is at = program_fault version text rest header number place left next fault spells so is at
+pub so_far_fault : (kind : Kind) (text rest : List ℕ) (header : Header) (number : ℕ) (place : Place) (left : List ℕ) (next : TextLine) (fault : Fault) → SpellsHeader (head_of kind) text header rest
+    → SoFar kind header.version rest number place left → IsNext header.version number place left next → IsFaultAt text place next fault → IsAtFault kind text fault
+so_far_fault kinds.Schedule text rest header number place left next fault spells so is at =
+    fault_behind kinds.Schedule text header rest fault spells (schedule_fault header.version text rest number place left next fault so is at)
+so_far_fault kinds.Walk text rest header number place left next fault spells so is at =
+    fault_behind kinds.Walk text header rest fault spells (walk_fault header.version text rest number place left next fault so is at)
+so_far_fault kinds.Program text rest header number place left next fault spells so is at =
+    fault_behind kinds.Program text header rest fault spells (program_fault header.version text rest header number place left next fault spells so is at)
 
 -- behind the header no line is read yet
 no_names : IsDistinct same_name (keys_of (labels_of []))
@@ -274,21 +279,18 @@ so_far_first kind text rest header place is spells link stands = by kind spells 
     by kinds.Program spells stands is = no_lines header.version rest place link (stands [])
 
 -- nothing is left
-pub so_far_all : (kind : Kind) (version : Version) (rest : List ℕ) (number : ℕ) (place : Place) (left : List ℕ) → left ≡ [] → SoFar kind version rest number place left → AreLinesBehind kind version rest
-so_far_all kinds.Schedule version rest number place left none so =
-    record { steps = so.0.steps; are = so.0.are; spelled = so.0.spelled ∙ ap (λ (t : List ℕ). steps_text so.0.steps ++ t) none ∙ append-nil (steps_text so.0.steps) }
-so_far_all kinds.Walk version rest number place left none (inl so) =
+pub so_far_all : (kind : Kind) (text : List ℕ) (header : Header) (rest : List ℕ) (number : ℕ) (place : Place) (left : List ℕ) → SpellsHeader (head_of kind) text header rest → left ≡ [] → SoFar kind header.version rest number place left
+    → IsReadBut kind text header.version rest
+so_far_all kinds.Schedule text header rest number place left spells none so =
+    schedule_read text header rest so.0.steps spells so.0.are (so.0.spelled ∙ ap (λ (t : List ℕ). steps_text so.0.steps ++ t) none ∙ append-nil (steps_text so.0.steps))
+so_far_all kinds.Walk text header rest number place left spells none (inl so) =
     let bad : false ≡ true = sym (ap debug_ahead none) ∙ so.1 in absurd (cc)
-so_far_all kinds.Walk version rest number place left none (inr so) = record {
-  steps = so.steps;
-  commands = so.commands;
-  are_steps = so.are_steps;
-  are_commands = so.are_commands;
-  spelled = so.spelled
-      ∙ ap (λ (t : List ℕ). before_commands so.steps (lines_of command_text so.commands ++ t)) none
-      ∙ ap (before_commands so.steps) (append-nil (lines_of command_text so.commands));
-}
-so_far_all kinds.Program version rest number place left none so =
+so_far_all kinds.Walk text header rest number place left spells none (inr so) =
+    walk_read text header rest so.steps so.commands spells so.are_steps so.are_commands
+    (so.spelled
+    ∙ ap (λ (t : List ℕ). before_commands so.steps (lines_of command_text so.commands ++ t)) none
+    ∙ ap (before_commands so.steps) (append-nil (lines_of command_text so.commands)))
+so_far_all kinds.Program text header rest number place left spells none so =
     record { lines = so.lines; are = so.are; spelled = so.spelled ∙ ap (λ (t : List ℕ). lines_of line_text so.lines ++ t) none ∙ append-nil (lines_of line_text so.lines) }
 
 -- few lines are read

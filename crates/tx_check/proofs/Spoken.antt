@@ -10,17 +10,6 @@ pub speaks : (what : What) (line : List ℕ) (column : ℕ) (sentence : List ℕ
 speaks (whats.Line trouble) line column sentence placed at says of = OfLine trouble placed says
 speaks (whats.OddByte byte) line column sentence placed at says of = OfByte byte placed.0 placed.1 says
 speaks (whats.Word word trouble) line column sentence placed at says of = OfWord word.now at of
-speaks (whats.NoSuch names word) line column sentence placed at says of = OfWord word.now at of
-speaks (whats.Takes name form got) line column sentence placed at says of = OfWord name.now at of
-speaks (whats.LineAlone word alone) line column sentence placed at says of = OfWord word.now at of
-speaks (whats.CallAlone word form) line column sentence placed at says of = OfWord word.now at of
-speaks (whats.OutOfRange word range) line column sentence placed at says of = OfWord word.now at of
-speaks (whats.Third word trouble) line column sentence placed at says of = OfWord word.now at of
-speaks (whats.NoneOf word choices) line column sentence placed at says of = OfWord word.now at of
-speaks (whats.InHex word) line column sentence placed at says of = OfWord word.now at of
-speaks (whats.NoSignal word) line column sentence placed at says of = OfWord word.now at of
-speaks (whats.NoSignalIn set member) line column sentence placed at says of = OfWord set.now at of
-speaks (whats.SecondLabel name number) line column sentence placed at says of = OfWord name.now at of
 
 -- of a line that is too long
 pub long : (what : What) (sentence : List ℕ) → what ≡ whats.Line troubles.TooLong → SaysOfLine what sentence → sentence ≡ line_sentence troubles.TooLong

@@ -4,7 +4,7 @@ use Rattle.tx_check.specs.Kinds.{head_of, kind_of}
 use Rattle.tx_check.specs.Numbered.{after_lines, line_at}
 use Rattle.tx_check.specs.OwnLines.{IsLineAt}
 use Rattle.tx_check.specs.Reads.{line_of, IsAtFault}
-use Rattle.tx_check.specs.Stands.{begins_label, stand_after, stand_behind, AmongLines, AtHeader, IsPlaceOf, IsVersionOf, Stand, StandsAt}
+use Rattle.tx_check.specs.Stands.{begins_label, stand_after, stand_behind, AmongLines, IsPlaceOf, IsVersionOf, Stand, StandsAt}
 use Rattle.tx_check.specs.Wrong.{IsWrong, IsWrongLine}
 use Rattle.tx_check.specs.declared.kinds.Kind.{Kind}
 use Rattle.tx_check.specs.declared.kinds.Kind.TheVariants as kinds
@@ -13,7 +13,7 @@ use Rattle.tx_check.specs.declared.places.Place.{Place}
 use Rattle.tx_check.specs.declared.places.TextLine.{TextLine}
 use Rattle.tx_lines.specs.Schedule.{after_line, first_line}
 use Rattle.tx_lines.specs.declared.faults.Fault.{Fault}
-use Rattle.tx_lines.specs.declared.faults.Fault.TheVariants.{NotALine, NoLabel, TooLong, Reader, Writer, NoMemory}
+use Rattle.tx_lines.specs.declared.faults.Fault.TheVariants.{NotALine, NoLabel, TooLong}
 
 -- one line later
 pub stands_later : (text : List ℕ) (count number later : ℕ) (line : List ℕ) (place next : Place) → number ≡ count + 1 → later ≡ count + 2 → line ≡ first_line (after_lines count text) → StandsAt text number place → next.version ≡ place.version
@@ -29,13 +29,6 @@ stands_later text count number later line place next at on same stands version g
       version = subst (IsVersionOf (head_of kind) text) (sym version) stands.version;
       stands = subst (λ (n : ℕ). IsPlaceOf (stand_behind kind text n) next) there gone;
     }
-
--- a text stands at its first line
-pub stands_first : (text : List ℕ) (kind : Kind) (place : Place) → kind ≡ kind_of text → IsVersionOf (head_of kind) text place.version → IsPlaceOf (AtHeader (head_of kind)) place → StandsAt text 1 place
-stands_first text kind place is version stands = record {
-  version = subst (λ (k : Kind). IsVersionOf (head_of k) text place.version) is version;
-  stands = subst (λ (k : Kind). IsPlaceOf (AtHeader (head_of k)) place) is stands;
-}
 
 -- behind its header a program stands among its lines
 record IsAmongLines (stand : Stand) : Type 0 where
@@ -83,9 +76,7 @@ pub stands_at_fault : (text : List ℕ) (kind : Kind) (fault : Fault) (place nex
 stands_at_fault text kind (NoLabel line) place next is fault stands version label other = stands_at_label text kind line place next is fault stands version (label line refl)
 stands_at_fault text kind (NotALine number) place next is fault stands version label other = subst (StandsAt text number) (sym (other (λ line e. absurd (cc)))) stands
 stands_at_fault text kind (TooLong number) place next is fault stands version label other = subst (StandsAt text number) (sym (other (λ line e. absurd (cc)))) stands
-stands_at_fault text kind Reader place next is fault stands version label other = subst (StandsAt text 0) (sym (other (λ line e. absurd (cc)))) stands
-stands_at_fault text kind Writer place next is fault stands version label other = subst (StandsAt text 0) (sym (other (λ line e. absurd (cc)))) stands
-stands_at_fault text kind NoMemory place next is fault stands version label other = subst (StandsAt text 0) (sym (other (λ line e. absurd (cc)))) stands
+stands_at_fault text kind _ place next is fault stands version label other = subst (StandsAt text 0) (sym (other (λ line e. absurd (cc)))) stands
 
 -- a line that is told is at fault
 pub wrong_line : (text : List ℕ) (place : Place) (line : TextLine) → StandsAt text line.number place → IsLineAt text line

@@ -3,14 +3,13 @@ use Rattle.std.proofs.Common.{◌≡◌, ◌∙◌, ℕ, ◌<◌, List, [], ◌�
 use Rattle.tx_check.specs.Numbered.{line_at}
 use Rattle.tx_check.specs.Reads.{line_of}
 use Rattle.tx_check.specs.Speaking.{kind_of_what, FaultKind, IsFitting, OfLength}
-use Rattle.tx_check.specs.Told.{told_text, Tells}
-use Rattle.tx_check.specs.ToldKinds.{kind_of_fault, BeginsOfKind, Grows, TellsOfKind}
+use Rattle.tx_check.specs.Told.{kind_of_fault, told_text, BeginsOfKind, Grows, Tells, TellsOfKind}
 use Rattle.tx_check.specs.Wrong.{IsFaultIn}
 use Rattle.tx_check.specs.declared.trouble.LineTrouble.TheVariants as troubles
 use Rattle.tx_check.specs.declared.trouble.What.{What}
 use Rattle.tx_check.specs.declared.trouble.What.TheVariants as whats
 use Rattle.tx_lines.specs.declared.faults.Fault.{Fault}
-use Rattle.tx_lines.specs.declared.faults.Fault.TheVariants.{NotALine, NoLabel, TooLong, Reader, Writer, NoMemory}
+use Rattle.tx_lines.specs.declared.faults.Fault.TheVariants.{NotALine, NoLabel, TooLong}
 use Rattle.tx_plain.specs.Meant.{fault_by}
 use Rattle.tx_plain.specs.OwnLines.{without_return}
 
@@ -42,21 +41,15 @@ begins kind number bytes old told new none tells grows =
 
 -- a fault is of one kind at the line that is meant and at its own
 same_kind : (lines : ℕ → ℕ) (fault : Fault) → kind_of_fault fault ≡ kind_of_fault (fault_by lines fault)
-same_kind lines (NotALine line) = refl
 same_kind lines (NoLabel line) = refl
-same_kind lines (TooLong line) = refl
-same_kind lines Reader = refl
-same_kind lines Writer = refl
-same_kind lines NoMemory = refl
+same_kind lines _ = refl
 
 -- where the line of a fault is too long, so is the fault's kind
 pub long_kind : (text : List ℕ) (fault : Fault) → IsFaultIn text fault → 512 < length (line_at (line_of fault) text) → kind_of_fault fault ≡ OfLength
 long_kind text (NotALine line) is long = absurd (omega (arith, long, is.short))
 long_kind text (NoLabel line) is long = absurd (omega (arith, long, is.short))
 long_kind text (TooLong line) is long = refl
-long_kind text Reader is long = absurd is
-long_kind text Writer is long = absurd is
-long_kind text NoMemory is long = absurd is
+long_kind text _ is long = absurd is
 
 pub told_so : (lines : ℕ → ℕ) (fault : Fault) (what : What) (number : ℕ) (bytes old new : List ℕ) → kind_of_what what ≡ kind_of_fault fault
     → (what ≡ whats.Line troubles.TooLong → 512 < length bytes) → (512 < length (without_return bytes) → kind_of_fault fault ≡ OfLength)

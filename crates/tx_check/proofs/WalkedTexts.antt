@@ -16,7 +16,7 @@ use Rattle.tx_lines.specs.Lines.{step_text}
 use Rattle.tx_lines.specs.Schedule.{after_line, first_line, steps_text, AreSteps, FaultsAtNext, FitsStepOf}
 use Rattle.tx_lines.specs.Walks.{before_commands, command_text, debug_line, AreCommands, FaultsAfterHeader, FaultsAtCommand, FaultsBeforeCommands, FitsCommand, IsNoCommand, IsPastSteps}
 use Rattle.tx_lines.specs.declared.faults.Fault.{Fault}
-use Rattle.tx_lines.specs.declared.faults.Fault.TheVariants.{NotALine, NoLabel, TooLong, Reader, Writer, NoMemory}
+use Rattle.tx_lines.specs.declared.faults.Fault.TheVariants.{NotALine, TooLong}
 use Rattle.tx_lines.specs.declared.read.command.Command.{Command}
 use Rattle.tx_lines.specs.declared.read.header.Version.{Version}
 
@@ -96,10 +96,7 @@ before_right : (version : Version) (count : ℕ) (rest : List ℕ) (fault : Faul
 before_right version count rest (TooLong line) short few ended some is = elim is.1 [ inl long ↦ omega (arith, long, short) | inr past ↦ few past ]
 before_right version count rest (NotALine line) short few ended some is =
     elim is.3 [ inl none ↦ ended none | inr other ↦ some (λ step fits. other.0 step fits.fits fits.of) other.1 ]
-before_right version count rest (NoLabel line) short few ended some is = is
-before_right version count rest Reader short few ended some is = is
-before_right version count rest Writer short few ended some is = is
-before_right version count rest NoMemory short few ended some is = is
+before_right version count rest _ short few ended some is = is
 
 before_once : (version : Version) (count : ℕ) (rest : List ℕ) (a b : Fault) → FaultsBeforeCommands version count rest a → FaultsBeforeCommands version count rest b → a ≡ b
 before_once version count rest (TooLong line) (TooLong other) first second = ap TooLong (first.0 ∙ sym second.0)
@@ -110,10 +107,7 @@ before_once version count rest (NotALine line) (TooLong other) first second =
 before_once version count rest (NotALine line) (NotALine other) first second = ap NotALine (first.0 ∙ sym second.0)
 before_once version count rest (TooLong line) b first second = absurd second
 before_once version count rest (NotALine line) b first second = absurd second
-before_once version count rest (NoLabel line) b first second = absurd first
-before_once version count rest Reader b first second = absurd first
-before_once version count rest Writer b first second = absurd first
-before_once version count rest NoMemory b first second = absurd first
+before_once version count rest _ b first second = absurd first
 
 -- a step that goes on
 step_on : (version : Version) (before : List (List ℕ)) (line rest behind : List ℕ) (fault : Fault) → IsStepAt version before line → first_line rest ≡ line → after_line rest ≡ Some behind → FaultsAfterBefore version before rest fault → ⊥

@@ -6,7 +6,7 @@ use Rattle.tx_check.specs.declared.readers.Reader.{Reader as TheReader}
 use Rattle.tx_lines.specs.Ends.{Counts}
 use Rattle.tx_lines.specs.Whole.{IsCalm}
 use Rattle.tx_lines.specs.declared.faults.Fault.{Fault}
-use Rattle.tx_lines.specs.declared.faults.Fault.TheVariants.{NotALine, NoLabel, TooLong, Reader, Writer, NoMemory}
+use Rattle.tx_lines.specs.declared.faults.Fault.TheVariants.{TooLong, Reader, Writer, NoMemory}
 
 -- a text of no more bytes than one may have was left to read, and that is told of it for a command
 pub record Hears (reader : TheReader) (left : Option (List ℕ)) (told : List ℕ) : Type 0 where
@@ -42,5 +42,4 @@ Checks reader left reads written writes (Err Writer) reads' written' writes' =
     WritesFront reader left written written'
     × ((writes.failed < writes'.failed) ⊎ ((writes.empty < writes'.empty) ⊎ (writes'.again ≡ writes.again + 1001)))
 Checks reader left reads written writes (Err NoMemory) reads' written' writes' = Keeps written written'
-Checks reader left reads written writes (Err (NotALine line)) reads' written' writes' = ⊥
-Checks reader left reads written writes (Err (NoLabel line)) reads' written' writes' = ⊥
+Checks reader left reads written writes (Err _) reads' written' writes' = ⊥

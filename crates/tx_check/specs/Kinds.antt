@@ -48,6 +48,5 @@ kind_of text = if is_program_head (first_line text) then Program else if has_deb
 
 -- the kind of header that such a text has
 abbrev pub head_of : Kind → TextKind
-head_of Schedule = texts.Schedule
-head_of Walk = texts.Schedule
 head_of Program = texts.Program
+head_of _ = texts.Schedule

@@ -13,6 +13,4 @@ pub mod Sessions
 pub mod Speaking
 pub mod Stands
 pub mod Told
-pub mod ToldKinds
-pub mod WordParts
 pub mod Wrong

@@ -5,14 +5,12 @@ use Rattle.strsim.specs.Edits.{osa_table}
 use Rattle.tx_check.specs.Labels.{labels_in}
 use Rattle.tx_check.specs.Numbered.{after_lines}
 use Rattle.tx_check.specs.Stands.{begins_label}
-use Rattle.tx_check.specs.declared.forms.Form.{Form}
 use Rattle.tx_check.specs.declared.forms.TheConstants.{CALLS, COMMANDS, PIECES, SESSION}
 use Rattle.tx_check.specs.declared.near.NearName.{NearName}
 use Rattle.tx_check.specs.declared.near.NearName.TheVariants as nears
 use Rattle.tx_check.specs.declared.trouble.Names.{Names}
 use Rattle.tx_check.specs.declared.trouble.Names.TheVariants as names
 use Rattle.tx_plain.specs.MeantLines.{left_of, line_of}
-use Rattle.tx_plain.specs.declared.meant_lines.OwnLine.{OwnLine}
 
 -- how many edits lead from one text to the other, of which an exchange of neighbours is one
 abbrev pub distance : List ℕ → List ℕ → ℕ
@@ -52,19 +50,13 @@ FindsName word names most None = AreFar word most names
 FindsName word names most (Some name) = (edits : ℕ) × IsNearest word names name edits × (edits < most)
 
 -- how many edits are too many, where that was found
-abbrev pub bound : {A : Type 0} → ℕ → Option (A × ℕ) → ℕ
+abbrev pub bound : ℕ → Option (List ℕ × ℕ) → ℕ
 bound most None = most
 bound most (Some found) = found.1
 
--- the name of a form, and of the label that a line means
-abbrev pub near_form : Form × ℕ → List ℕ × ℕ
-near_form found = (found.0.name.now, found.1)
-
+-- the name of the label that a line means
 abbrev pub label_name : List ℕ → List ℕ
 label_name line = drop 6 line
-
-abbrev pub near_label : OwnLine × ℕ → List ℕ × ℕ
-near_label found = (label_name (line_of found.0), found.1)
 
 -- names, and that of a line behind them where it is a label
 abbrev pub with_name : List ℕ → List (List ℕ) → List (List ℕ)
@@ -98,6 +90,9 @@ abbrev pub name_of : NearName → List ℕ
 name_of (nears.Form form) = form.name.now
 name_of (nears.Step form) = form.name.now
 name_of (nears.Label line) = label_name (line_of line)
+
+abbrev pub near : NearName × ℕ → List ℕ × ℕ
+near found = (name_of found.0, found.1)
 
 -- the name of a label without the `@` before it
 abbrev pub bare_name : List ℕ → List ℕ

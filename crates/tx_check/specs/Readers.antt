@@ -15,9 +15,8 @@ use Rattle.tx_plain.specs.Meant.{meant_of, IsOwnFault}
 
 -- the kind that JSON is made of, by the kind that a text is meant to be: a program is none
 abbrev pub json_kind : Kind → Kind
-json_kind Schedule = Schedule
 json_kind Walk = Walk
-json_kind Program = Schedule
+json_kind _ = Schedule
 
 -- the kind of text that a command reads
 abbrev pub kind_for : Reader → Kind → Kind

@@ -34,21 +34,18 @@ abbrev pub IsRight : Part → Version → List ℕ → Type 0
 IsRight (parts.Header kind) version line = ⊥
 IsRight parts.Step version line = (line ≡ debug_line) ⊎ SpellsStep version line
 IsRight parts.Command version line = SpellsCommand version line
-IsRight parts.ProgramLine version line = SpellsLine version line
-IsRight parts.Link version line = SpellsLine version line
+IsRight _ version line = SpellsLine version line
 
 -- no line that the grammar has there is spelled so; nothing is said of first lines
 abbrev pub IsNoneThere : Part → Version → List ℕ → Type 0
 IsNoneThere (parts.Header kind) version line = Unit {0}
 IsNoneThere parts.Step version line = IsNoLineBefore version line
 IsNoneThere parts.Command version line = IsNoCommand version line
-IsNoneThere parts.ProgramLine version line = IsNoLineOf version line
-IsNoneThere parts.Link version line = IsNoLineOf version line
+IsNoneThere _ version line = IsNoLineOf version line
 
 -- so many lines of its part stand before it that the line is one too many; of a program there are so many instructions, and so many labels
 abbrev pub IsTooMany : Part → ℕ → ℕ → List ℕ → Type 0
-IsTooMany (parts.Header kind) count labels line = ⊥
 IsTooMany parts.Step count labels line = (4096 ≤ count) × (line ≢ debug_line)
 IsTooMany parts.Command count labels line = 4096 ≤ count
 IsTooMany parts.ProgramLine count labels line = ((256 ≤ labels) × BeginsLabel line) ⊎ ((1024 ≤ count) × (BeginsLabel line → ⊥))
-IsTooMany parts.Link count labels line = ⊥
+IsTooMany _ count labels line = ⊥

@@ -13,6 +13,8 @@ use Rattle.tx_check.specs.declared.trouble.Names.{Names}
 use Rattle.tx_check.specs.declared.trouble.Names.TheVariants as names
 use Rattle.tx_check.specs.declared.trouble.What.{What}
 use Rattle.tx_check.specs.declared.trouble.What.TheVariants as whats
+use Rattle.tx_check.specs.declared.trouble.WordTrouble.{WordTrouble}
+use Rattle.tx_check.specs.declared.trouble.WordTrouble.TheVariants as words
 use Rattle.tx_plain.specs.OwnLines.{without_return}
 use Rattle.tx_plain.specs.Words.{words_in}
 
@@ -75,12 +77,16 @@ pub record IsWordAt (line : List ℕ) (column : ℕ) (word : List ℕ) : Type 0 
   pub at : column ≡ length front + 1
   pub ends : ends_word rest ≡ true
 
--- the byte is at that column
-pub record IsByteAt (line : List ℕ) (column byte : ℕ) : Type 0 where
+-- these bytes are at that column
+pub record IsAt (line : List ℕ) (column : ℕ) (bytes : List ℕ) : Type 0 where
   pub front : List ℕ
   pub rest : List ℕ
-  pub parts : line ≡ front ++ (byte ∷ rest)
+  pub parts : line ≡ front ++ (bytes ++ rest)
   pub at : column ≡ length front + 1
+
+-- the byte is there
+abbrev pub IsByteAt : List ℕ → ℕ → ℕ → Type 0
+IsByteAt line column byte = IsAt line column (byte ∷ [])
 
 -- what is said of a byte, and of a word: its first bytes
 abbrev pub shown : ℕ → ℕ
@@ -119,30 +125,12 @@ abbrev pub word_of : What → Option (List ℕ)
 word_of (whats.Line trouble) = None
 word_of (whats.Word word trouble) = Some word.now
 word_of (whats.OddByte byte) = None
-word_of (whats.NoSuch names word) = Some word.now
-word_of (whats.Takes name form got) = Some name.now
-word_of (whats.LineAlone word line) = Some word.now
-word_of (whats.CallAlone word form) = Some word.now
-word_of (whats.OutOfRange word range) = Some word.now
-word_of (whats.Third word trouble) = Some word.now
-word_of (whats.NoneOf word choices) = Some word.now
-word_of (whats.InHex word) = Some word.now
-word_of (whats.NoSignal word) = Some word.now
-word_of (whats.NoSignalIn set member) = Some set.now
-word_of (whats.SecondLabel name line) = Some name.now
 
 -- what a sentence says that is about no word
 abbrev pub SaysOfLine : What → List ℕ → Type 0
 SaysOfLine (whats.Line trouble) sentence = sentence ≡ line_sentence trouble
 SaysOfLine (whats.OddByte byte) sentence = SpeaksOfByte byte sentence
 SaysOfLine what sentence = Unit {0}
-
--- these bytes are at that column
-pub record IsAt (line : List ℕ) (column : ℕ) (bytes : List ℕ) : Type 0 where
-  pub front : List ℕ
-  pub rest : List ℕ
-  pub parts : line ≡ front ++ (bytes ++ rest)
-  pub at : column ≡ length front + 1
 
 -- a space is at that column that parts no two words: it is first, or last, or before another one
 pub record IsOddSpace (line : List ℕ) (column : ℕ) : Type 0 where
@@ -249,10 +237,14 @@ abbrev pub kind_of_names : Names → FaultKind
 kind_of_names (names.Labels text) = OfLabel
 kind_of_names names = OfGrammar
 
+abbrev pub kind_of_word : WordTrouble → FaultKind
+kind_of_word (words.NoSuch names) = kind_of_names names
+kind_of_word trouble = OfGrammar
+
 abbrev pub kind_of_what : What → FaultKind
 kind_of_what (whats.Line trouble) = kind_of_line trouble
-kind_of_what (whats.NoSuch names word) = kind_of_names names
-kind_of_what what = OfGrammar
+kind_of_what (whats.Word word trouble) = kind_of_word trouble
+kind_of_what (whats.OddByte byte) = OfGrammar
 
 -- what stands before a label that is nowhere, and before no other word
 abbrev pub no_label : List ℕ

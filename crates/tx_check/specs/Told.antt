@@ -5,11 +5,12 @@ use Rattle.std.specs.List.{list_all}
 use Rattle.tx_check.specs.Kinds.{kind_of}
 use Rattle.tx_check.specs.Numbered.{line_at}
 use Rattle.tx_check.specs.Reads.{line_of, IsAtFault, IsRead}
-use Rattle.tx_check.specs.Speaking.{line_sentence, SpeaksAt}
+use Rattle.tx_check.specs.Speaking.{line_sentence, FaultKind, IsOfKind, OfGrammar, OfLabel, OfLength, SpeaksAt}
 use Rattle.tx_check.specs.Wrong.{IsWrongLine, IsWrongToo}
 use Rattle.tx_check.specs.declared.trouble.LineTrouble.TheVariants.{TooLong}
 use Rattle.tx_lines.specs.Schedule.{lines_of}
 use Rattle.tx_lines.specs.declared.faults.Fault.{Fault}
+use Rattle.tx_lines.specs.declared.faults.Fault.TheVariants as faults
 use Rattle.tx_plain.specs.Meant.{meant_of, own_line, IsOwnFault}
 use Rattle.tx_plain.specs.OwnLines.{without_return}
 
@@ -92,10 +93,6 @@ pub record TellsUpTo (IsWanted : ℕ → Type 0) (text : List ℕ) (line last : 
   pub from : TellsFrom IsWanted text line told
   pub up_to : last_line line from.others ≡ last
 
--- a text is read: it means one of its kind
-abbrev pub IsMeantRead : List ℕ → Type 0
-IsMeantRead text = IsRead (kind_of (meant_of text)) (meant_of text)
-
 -- a text is at fault: what it means is, and the line is the text's own
 abbrev pub IsMeantFault : List ℕ → Fault → Type 0
 IsMeantFault text fault = IsOwnFault (IsAtFault (kind_of (meant_of text))) text fault
@@ -114,4 +111,27 @@ pub record IsToldBy (IsRight : Type 0) (IsFault : Fault → Type 0) (IsWanted : 
 
 -- that is told of a text by the command of its kind, and no line that is at fault too is left out
 abbrev pub IsToldOf : List ℕ → List ℕ → Type 0
-IsToldOf text told = IsToldBy (IsMeantRead text) (IsMeantFault text) (IsWrongToo (meant_of text)) text told
+IsToldOf text told = IsToldBy (IsRead (kind_of (meant_of text)) (meant_of text)) (IsMeantFault text) (IsWrongToo (meant_of text)) text told
+
+-- one thing more is told, of the line of that number and those bytes, by a sentence of that kind
+pub record TellsOfKind (kind : FaultKind) (line : ℕ) (bytes old new : List ℕ) : Type 0 where
+  pub tells : Tells line bytes old new
+  pub of_kind : IsOfKind kind tells.told.sentence
+
+-- of what kind a fault is
+abbrev pub kind_of_fault : Fault → FaultKind
+kind_of_fault (faults.TooLong line) = OfLength
+kind_of_fault (faults.NoLabel line) = OfLabel
+kind_of_fault fault = OfGrammar
+
+-- what is told begins with a sentence of that kind
+pub record BeginsOfKind (kind : FaultKind) (told : List ℕ) : Type 0 where
+  pub first : Told
+  pub rest : List ℕ
+  pub begins : told ≡ told_text first ++ 10 ∷ rest
+  pub of_kind : IsOfKind kind first.sentence
+
+-- nothing that was told is lost
+pub record Grows (old new : List ℕ) : Type 0 where
+  pub more : List ℕ
+  pub grown : new ≡ old ++ more

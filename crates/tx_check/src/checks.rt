@@ -9,8 +9,7 @@ ghost use Rattle.tx_check.specs.Reads as spec;
 ghost use Rattle.tx_check.specs.Reads.{Finds, IsAtFault};
 ghost use Rattle.tx_check.specs.Stands.{StandsAt};
 ghost use Rattle.tx_check.specs.Speaking.{kind_of_what, IsKindAt};
-ghost use Rattle.tx_check.specs.Told.{IsColumn, IsMeantFault, IsToldOf, TellsFrom};
-ghost use Rattle.tx_check.specs.ToldKinds.{kind_of_fault, BeginsOfKind, Grows};
+ghost use Rattle.tx_check.specs.Told.{kind_of_fault, BeginsOfKind, Grows, IsMeantFault, IsToldOf, TellsFrom};
 ghost use Rattle.tx_check.specs.Wrong.{IsFaultIn, IsWrongBehind};
 ghost use Rattle.tx_check.specs.declared.kinds.Kind.TheVariants as kinds;
 ghost use Rattle.tx_check.specs.declared.places.Part.TheVariants as parts;
@@ -131,7 +130,6 @@ fn trouble_at_fault<'a>(
     line: TextLine<'a>,
 ) -> Trouble<'a>
     requires { AreKnown text.now }
-    ensures column { IsColumn line.entry.bytes.now result.column }
     ensures kind { IsKindAt place.now (left_of text.now.text) line.entry.number line.entry.bytes.now
         line.entry.is_ended (kind_of_what result.what)
         ⊎ IsQuietAt (left_of text.now.text) place.now line.entry }

@@ -4,7 +4,6 @@ ghost use Rattle.tx_check.specs.Labels.{AreKnown};
 ghost use Rattle.tx_check.specs.Right.{IsNoneThere, IsRight, IsTooMany};
 ghost use Rattle.tx_check.specs.Stands.{IsPlaceOf, Stand};
 ghost use Rattle.tx_check.specs.Speaking.{kind_of_what, IsKindAt, OfGrammar, OfLabel};
-ghost use Rattle.tx_check.specs.Told.{IsColumn};
 ghost use Rattle.tx_check.specs.Wrong.{IsLinkedLine, IsTwice, IsWrong, NamesNowhere};
 ghost use Rattle.tx_check.specs.declared.places.Part.TheVariants as parts;
 ghost use Rattle.tx_check.specs.declared.trouble.LineTrouble.TheVariants as troubles;
@@ -12,7 +11,7 @@ ghost use Rattle.tx_check.specs.declared.trouble.What.TheVariants as whats;
 ghost use Rattle.tx_plain.specs.MeantLines.{left_of};
 
 pub mod alone;
-mod bytes;
+pub mod bytes;
 pub mod calls;
 mod commands;
 mod fields;
@@ -44,7 +43,6 @@ pub fn trouble_of<'a>(
     line: TextLine<'a>,
 ) -> Option<Trouble<'a>>
     requires { AreKnown text.now }
-    ensures column { IfSome result (λ trouble. IsColumn line.entry.bytes.now trouble.column) }
     ensures right { IfNone result
         (IsRight place.now.part place.now.version line.entry.bytes.now) }
     ensures short { IfNone result (length line.entry.bytes.now ≤ 512) }
@@ -95,18 +93,11 @@ pub fn is_right(place: &Place, line: &[u8]) -> bool
 /// What is wrong with a line that is not right: with its bytes, its words or its end, or else with
 /// the whole of it.
 fn trouble_in<'a>(place: &Place, line: &'a [u8], is_ended: bool) -> Trouble<'a>
-    ensures column { IsColumn line.now result.column }
-    ensures kind { kind_of_what result.what ≡ OfGrammar }
+    ensures { kind_of_what result.what ≡ OfGrammar }
 {
-    if let Part::Header(_kind) = place.part
-        && (line.is_empty() || line[0] == b'#')
+    if let Some(trouble) = trouble_in_words(place, line)
+        && trouble.what.is_of_grammar()
     {
-        return Trouble::of_line(1, LineTrouble::NoHeader);
-    }
-    if let Some(trouble) = shape_trouble(line) {
-        return trouble;
-    }
-    if let Some(trouble) = trouble_in_words(place, line) {
         return trouble;
     }
     match no_end(line, is_ended) {
@@ -117,7 +108,6 @@ fn trouble_in<'a>(place: &Place, line: &'a [u8], is_ended: bool) -> Trouble<'a>
 
 /// What is told of a line without an end.
 fn no_end(line: &[u8], is_ended: bool) -> Option<Trouble<'static>>
-    ensures column { IfSome result (λ trouble. IsColumn line.now trouble.column) }
     ensures ended { IfNone result (IsTrue is_ended) }
     ensures unended { IfSome result (λ trouble. is_ended ≡ false) }
     ensures kind { IfSome result (λ trouble. kind_of_what trouble.what ≡ OfGrammar) }
@@ -130,8 +120,7 @@ fn no_end(line: &[u8], is_ended: bool) -> Option<Trouble<'static>>
 
 /// What is told of a line at fault where nothing else is found that is wrong with it.
 pub fn unknown() -> Trouble<'static>
-    ensures column { result.column ≡ 1 }
-    ensures kind { kind_of_what result.what ≡ OfGrammar }
+    ensures { kind_of_what result.what ≡ OfGrammar }
 {
     Trouble::of_line(1, LineTrouble::NoneOfTheGrammar)
 }
@@ -144,8 +133,9 @@ fn trouble_between<'a>(
     number: u64,
     line: &'a [u8],
 ) -> Option<Trouble<'a>>
-    requires { AreKnown text.now }
-    ensures column { IfSome result (λ trouble. IsColumn line.now trouble.column) }
+    requires known { AreKnown text.now }
+    requires right { IsRight place.now.part place.now.version line.now }
+    requires short { length line.now ≤ 512 }
     ensures wrong { IfSome result (λ trouble.
         IsTwice (left_of text.now.text) number line.now
         ⊎ NamesNowhere (left_of text.now.text) line.now) }
@@ -162,16 +152,21 @@ fn trouble_between<'a>(
 {
     match place.part {
         Part::ProgramLine => second_label(text, number, line),
-        Part::Link => link_trouble(lines, text, line),
+        Part::Link => link_trouble(lines, text, place.version, line),
         _ => None,
     }
 }
 
-/// What is wrong with the words of a line.
-fn trouble_in_words<'a>(place: &Place, line: &'a [u8]) -> Option<Trouble<'a>>
-    ensures column { IfSome result (λ trouble. IsColumn line.now trouble.column) }
-    ensures kind { IfSome result (λ trouble. kind_of_what trouble.what ≡ OfGrammar) }
-{
+/// What is wrong with the bytes of a line, or with its words.
+fn trouble_in_words<'a>(place: &Place, line: &'a [u8]) -> Option<Trouble<'a>> {
+    if let Part::Header(_kind) = place.part
+        && (line.is_empty() || line[0] == b'#')
+    {
+        return Some(Trouble::of_line(1, LineTrouble::NoHeader));
+    }
+    if let Some(trouble) = shape_trouble(line) {
+        return Some(trouble);
+    }
     match place.part {
         Part::Header(kind) => header_trouble(kind, line),
         Part::Step => step_trouble(place.version, line),

@@ -1,11 +1,11 @@
 //! Finds the line at which the command of a text's kind finds it at fault. It takes no memory.
 ghost use Rattle.std.specs.Prelude.{◌≡◌, ◌↔◌, ◌≤◌, ℕ, IfNone, IfSome, IsTrue, MatchOption, length};
 ghost use Rattle.std.specs.Option.{option_copied};
-ghost use Rattle.tx_check.specs.Behind.{AreLinesBehind, AreLinked, FaultsBehind, IsFaultAt, MayStand};
+ghost use Rattle.tx_check.specs.Behind.{AreProgramLines, IsFaultAt, IsReadBut, MayStand};
 ghost use Rattle.tx_check.specs.Kinds.{head_of};
 ghost use Rattle.tx_check.specs.Kinds as spec;
 ghost use Rattle.tx_check.specs.Labels.{AreKnown};
-ghost use Rattle.tx_check.specs.Reads.{Finds};
+ghost use Rattle.tx_check.specs.Reads.{Finds, IsAtFault};
 ghost use Rattle.tx_check.specs.Wrong.{IsFaultIn, IsNamedNowhere, IsNowhere, IsTwice};
 ghost use Rattle.tx_check.specs.declared.kinds.Kind.TheVariants as kinds;
 ghost use Rattle.tx_check.specs.declared.places.Part.TheVariants as parts;
@@ -64,8 +64,9 @@ fn fault_behind(
     requires known { AreKnown text.now }
     requires kind { kind ≡ spec.kind_of (left_of text.now.text) }
     requires header { SpellsHeader (head_of kind) (left_of text.now.text) header (left_of rest) }
-    ensures finds { MatchOption result (AreLinesBehind kind header.version (left_of rest.entry))
-        (FaultsBehind kind header.version (left_of rest.entry)) }
+    ensures finds { MatchOption result
+        (IsReadBut kind (left_of text.now.text) header.version (left_of rest.entry))
+        (IsAtFault kind (left_of text.now.text)) }
     ensures there { IfSome result (IsFaultIn (left_of text.now.text)) }
 {
     let mut place = Place::behind_header(kind_of_head(kind), header.version);
@@ -120,9 +121,8 @@ fn is_second_label(text: &Labels<'_>, place: &Place, line: TextLine<'_>) -> bool
 fn unlinked(text: &Labels<'_>, header: Header, rest: MeantLines<'_>) -> Option<Fault>
     requires known { AreKnown text.now }
     requires header { SpellsHeader texts.Program (left_of text.now.text) header (left_of rest) }
-    requires lines { AreLinesBehind kinds.Program header.version (left_of rest) }
-    ensures finds { MatchOption result (AreLinked header.version (left_of rest.entry))
-        (FaultsBehind kinds.Program header.version (left_of rest.entry)) }
+    requires lines { AreProgramLines header.version (left_of rest) }
+    ensures finds { Finds kinds.Program (left_of text.now.text) result }
     ensures label { IfSome result (λ fault. (line : ℕ) × (fault ≡ faults.NoLabel line)) }
 {
     let mut number = FIRST_LINE;
@@ -139,7 +139,7 @@ fn unlinked(text: &Labels<'_>, header: Header, rest: MeantLines<'_>) -> Option<F
 }
 
 /// Whether a line of a program of that version names a label which is nowhere in the text.
-fn is_unlinked(text: &Labels<'_>, version: Version, line: &[u8]) -> bool
+pub fn is_unlinked(text: &Labels<'_>, version: Version, line: &[u8]) -> bool
     requires known { AreKnown text.now }
     requires short { length line.now ≤ 512 }
     ensures { (one : Line) → IsLineOf version one → line.now ≡ line_text one →

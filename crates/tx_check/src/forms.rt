@@ -27,6 +27,8 @@ pub enum Field {
     Bytes,
     /// A set of signals.
     Signals,
+    /// The name of a label.
+    Name,
     /// One of these words, which are parted by `|`.
     Choice(&'static [u8]),
 }
@@ -133,6 +135,7 @@ pub fn field_of(word: &'static [u8]) -> Field {
         b"POINT" => Field::Point,
         b"HEX" => Field::Bytes,
         b"SET" => Field::Signals,
+        b"NAME" => Field::Name,
         _ => Field::Choice(word),
     }
 }

@@ -1,7 +1,7 @@
 //! The name that is nearest to a mistyped one.
 ghost use Rattle.std.specs.Prelude.{◌≡◌, ◌<◌, ◌≤◌, ◌++◌, ◌∷◌, [], ℕ, List, None, Some, map, option_map, IfNone, IfOk, IfSome};
 ghost use Rattle.tx_check.specs.Near as spec;
-ghost use Rattle.tx_check.specs.Near.{call_names, name_of, near_form, near_label, session_names, with_name, FindsLabel, FindsName, FindsNear, IsFoundIn, IsKnown, IsNear};
+ghost use Rattle.tx_check.specs.Near.{call_names, name_of, near, session_names, with_name, FindsLabel, FindsName, FindsNear, IsFoundIn, IsKnown, IsNear};
 ghost use Rattle.tx_check.specs.declared.trouble.Names.TheVariants as lists;
 ghost use Rattle.tx_lines.specs.Programs.{BeginsLabel};
 ghost use Rattle.tx_plain.specs.MeantLines.{left_of, line_of};
@@ -89,10 +89,8 @@ fn nearest_name(
     ensures { IfOk result (λ found. FindsName word.now (map (λ form. form.0.now) forms.now) 5
         (option_map name_of found)) }
 {
-    match nearest_form(alloc, forms, EDITS + 1, word)? {
-        Some((form, _edits)) => Ok(Some(NearName::Form(form))),
-        None => Ok(None),
-    }
+    let nearest = nearest_form(alloc, None, forms, false, word)?;
+    Ok(named(nearest))
 }
 
 /// The nearest command of a session, or a call that is nearer.
@@ -100,73 +98,81 @@ fn nearest_in_session(alloc: Global, word: &[u8]) -> Result<Option<NearName<'sta
     ensures { IfOk result (λ found. FindsName word.now (session_names ++ call_names) 5
         (option_map name_of found)) }
 {
-    let command = nearest_form(alloc, SESSION.as_slice(), EDITS + 1, word)?;
-    let call = nearest_form(alloc, CALLS.as_slice(), bound(EDITS + 1, command), word)?;
-    Ok(name_in_session(command, call))
+    let command = nearest_form(alloc, None, SESSION.as_slice(), false, word)?;
+    let nearest = nearest_form(alloc, command, CALLS.as_slice(), true, word)?;
+    Ok(named(nearest))
 }
 
-/// That command of a session, or that call, which is nearer.
-fn name_in_session(
-    command: Option<(Form, usize)>,
-    call: Option<(Form, usize)>,
-) -> Option<NearName<'static>>
-    ensures { (word : List ℕ) (names others : List (List ℕ)) (most : ℕ) →
-        FindsNear word names most (option_map near_form command) →
-        FindsNear word others (spec.bound most (option_map near_form command))
-        (option_map near_form call) →
-        FindsName word (names ++ others) most (option_map name_of result) }
+/// The name that was found, without how many edits lead to it.
+fn named<'a>(found: Option<(NearName<'a>, usize)>) -> Option<NearName<'a>>
+    ensures { (word : List ℕ) (names : List (List ℕ)) →
+        FindsNear word names 5 (option_map near found.entry) →
+        FindsName word names 5 (option_map name_of result) }
 {
-    match (command, call) {
-        (_, Some((form, _edits))) => Some(NearName::Step(form)),
-        (Some((form, _edits)), None) => Some(NearName::Form(form)),
-        (None, None) => None,
+    match found {
+        Some((name, _edits)) => Some(name),
+        None => None,
     }
 }
 
-/// The nearest of the forms by their names to which fewer than so many edits lead, and how many do:
-/// the first where several are as near.
+/// The nearest name of those that were looked at, or that of a form, or of the step of one, where fewer
+/// edits lead to that: the first where several are as near.
 fn nearest_form(
     alloc: Global,
+    nearest: Option<(NearName<'static>, usize)>,
     forms: &'static [(&'static str, &'static str)],
-    most: usize,
+    is_step: bool,
     word: &[u8],
-) -> Result<Option<(Form, usize)>, NoMemory>
-    ensures { IfOk result (λ found. FindsNear word.now (map (λ form. form.0.now) forms.now) most
-        (option_map near_form found)) }
+) -> Result<Option<(NearName<'static>, usize)>, NoMemory>
+    ensures { IfOk result (λ found. (names : List (List ℕ)) →
+        FindsNear word.now names 5 (option_map near nearest.entry) →
+        FindsNear word.now (names ++ map (λ form. form.0.now) forms.now) 5 (option_map near found)) }
 {
-    let mut nearest = None;
+    let mut found = nearest;
     for at in 0..forms.len() {
         let (name, words) = forms[at];
-        nearest = nearer(alloc, nearest, Form { name, words }, most, word)?;
+        let one = near_of(Form { name, words }, is_step);
+        found = nearer(alloc, found, one, name.as_bytes(), word)?;
     }
-    Ok(nearest)
+    Ok(found)
 }
 
-/// The nearest form of those that were looked at, or that one more where fewer edits lead to its name.
-fn nearer(
-    alloc: Global,
-    nearest: Option<(Form, usize)>,
-    form: Form,
-    most: usize,
-    word: &[u8],
-) -> Result<Option<(Form, usize)>, NoMemory>
-    ensures { IfOk result (λ next. (names : List (List ℕ)) →
-        FindsNear word.now names most (option_map near_form nearest) →
-        FindsNear word.now (names ++ form.name.now ∷ []) most (option_map near_form next)) }
+/// The name of that form, or of a step of it.
+fn near_of(form: Form, is_step: bool) -> NearName<'static>
+    ensures { name_of result ≡ form.name.now }
 {
-    match fewer_edits(alloc, bound(most, nearest), form.name.as_bytes(), word)? {
-        Some(fewer) => Ok(Some((form, fewer))),
+    if is_step {
+        return NearName::Step(form);
+    }
+    NearName::Form(form)
+}
+
+/// The nearest name of those that were looked at, or that one more where fewer edits lead to it.
+fn nearer<'a>(
+    alloc: Global,
+    nearest: Option<(NearName<'a>, usize)>,
+    one: NearName<'a>,
+    name: &[u8],
+    word: &[u8],
+) -> Result<Option<(NearName<'a>, usize)>, NoMemory>
+    requires { name.now ≡ name_of one }
+    ensures { IfOk result (λ next. (names : List (List ℕ)) →
+        FindsNear word.now names 5 (option_map near nearest.entry) →
+        FindsNear word.now (names ++ name.now ∷ []) 5 (option_map near next)) }
+{
+    match fewer_edits(alloc, bound(nearest), name, word)? {
+        Some(fewer) => Ok(Some((one, fewer))),
         None => Ok(nearest),
     }
 }
 
-/// How many edits are too many, where that form was found.
-fn bound(most: usize, nearest: Option<(Form, usize)>) -> usize
-    ensures { result ≡ spec.bound most (option_map near_form nearest) }
+/// How many edits are too many, where that name was found.
+fn bound(nearest: Option<(NearName<'_>, usize)>) -> usize
+    ensures { result ≡ spec.bound 5 (option_map near nearest.entry) }
 {
     match nearest {
-        Some((_form, edits)) => edits,
-        None => most,
+        Some((_name, edits)) => edits,
+        None => EDITS + 1,
     }
 }
 
@@ -182,45 +188,31 @@ fn nearest_label<'a>(
     let mut nearest = None;
     let mut left = text;
     while let Some((line, rest)) = left.split() {
-        nearest = nearer_label(alloc, nearest, line, EDITS + 1, word)?;
+        nearest = nearer_label(alloc, nearest, line, word)?;
         left = rest;
     }
-    match nearest {
-        Some((line, _edits)) => Ok(Some(NearName::Label(line))),
-        None => Ok(None),
-    }
+    Ok(named(nearest))
 }
 
 /// The nearest label of those that were looked at, or the one that a line means where fewer edits lead
 /// to its name.
 fn nearer_label<'a>(
     alloc: Global,
-    nearest: Option<(OwnLine<'a>, usize)>,
+    nearest: Option<(NearName<'a>, usize)>,
     line: OwnLine<'a>,
-    most: usize,
     word: &[u8],
-) -> Result<Option<(OwnLine<'a>, usize)>, NoMemory>
+) -> Result<Option<(NearName<'a>, usize)>, NoMemory>
     ensures { IfOk result (λ next. (names : List (List ℕ)) →
-        FindsNear word.now names most (option_map near_label nearest.entry) →
-        FindsNear word.now (with_name (line_of line.entry) names) most (option_map near_label next)) }
+        FindsNear word.now names 5 (option_map near nearest.entry) →
+        FindsNear word.now (with_name (line_of line.entry) names) 5 (option_map near next)) }
 {
     let mut room = Room::new();
-    let Some(name) = label_name(line, &mut room) else {
-        return Ok(nearest);
-    };
-    match fewer_edits(alloc, label_bound(most, nearest), name, word)? {
-        Some(fewer) => Ok(Some((line, fewer))),
+    match label_name(line, &mut room) {
+        Some(name) => {
+            let next = nearer(alloc, nearest, NearName::Label(line), name, word)?;
+            Ok(next)
+        }
         None => Ok(nearest),
-    }
-}
-
-/// How many edits are too many, where that label was found.
-fn label_bound(most: usize, nearest: Option<(OwnLine<'_>, usize)>) -> usize
-    ensures { result ≡ spec.bound most (option_map near_label nearest.entry) }
-{
-    match nearest {
-        Some((_line, edits)) => edits,
-        None => most,
     }
 }
 

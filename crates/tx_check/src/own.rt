@@ -1,5 +1,5 @@
 //! The lines of a text itself, where what is wrong with the lines that they mean is told.
-ghost use Rattle.std.specs.Prelude.{◌≡◌, ◌+◌, ◌-◌, ◌≤◌, IfSome, length};
+ghost use Rattle.std.specs.Prelude.{◌≡◌, ◌-◌, ◌≤◌, IfSome};
 ghost use Rattle.tx_check.specs.Numbered.{after_lines};
 ghost use Rattle.tx_check.specs.Speaking.{kind_of_what};
 ghost use Rattle.tx_check.specs.Told.{IsColumn};
@@ -8,10 +8,9 @@ ghost use Rattle.tx_check.specs.declared.trouble.What.TheVariants as whats;
 ghost use Rattle.tx_lines.specs.Schedule.{first_line};
 
 use crate::places::{Part, TextLine, behind};
-use crate::third::strings::string_trouble;
-use crate::third::third_what;
+use crate::third::third_trouble;
 use crate::trouble::Trouble;
-use crate::words::{Word, count_words};
+use crate::words::{Word, count_words, word_at};
 use tx_plain::split_word;
 
 /// A text from one of its lines on.
@@ -66,63 +65,46 @@ pub fn own_trouble<'a>(
     own: &'a [u8],
     trouble: Trouble<'a>,
 ) -> Trouble<'a>
-    requires { IsColumn line.now trouble.column }
-    ensures column { IsColumn own.now result.column }
     ensures kind { kind_of_what result.what ≡ kind_of_what trouble.entry.what }
     ensures long { result.what ≡ whats.Line troubles.TooLong →
         trouble.entry.what ≡ whats.Line troubles.TooLong }
 {
-    let column = own_column(line, own, trouble.column);
-    if !is_third {
-        return Trouble {
-            column,
-            what: trouble.what,
-        };
+    let trouble = trouble.within(line);
+    let place = count_words(&line[..trouble.column - 1]) - 1;
+    let moved = Trouble {
+        column: own_column(line, own, place, trouble.column),
+        what: trouble.what,
+    };
+    if !is_third || !trouble.what.is_of_grammar() {
+        return moved;
     }
-    if let Some(trouble) = string_trouble(line, own, column, &trouble.what) {
-        return trouble;
-    }
-    Trouble {
-        column,
-        what: third_what(part, line, trouble),
+    let third = third_trouble(part, line, place, own, moved);
+    if third.what.is_of_grammar() {
+        third
+    } else {
+        moved
     }
 }
 
-/// The column in an own line of what stands at a column of the line that it means: that of the word
-/// in the same place, or the one behind it for the end of the line.
-fn own_column(line: &[u8], own: &[u8], column: usize) -> usize
-    requires { IsColumn line.now column }
-    ensures { IsColumn own.now result }
-{
+/// The column in an own line of what stands at a column of the line that it means, in the word of that
+/// place: that of the own word in the same place, or the one behind it for the end of the line.
+fn own_column(line: &[u8], own: &[u8], place: usize, column: usize) -> usize {
     if line == own {
         return column;
     }
-    let front = &line[..column - 1];
-    match own_word(own, count_words(front) - 1) {
-        Some(word) if column > line.len() => word.column + word.bytes.len(),
-        Some(word) => word.column + last_word(front).min(word.bytes.len()),
-        None => 1,
+    match (own_word(own, place), word_at(line, place)) {
+        (Some(word), _) if column > line.len() => word.column.saturating_add(word.bytes.len()),
+        (Some(word), Some(meant)) => {
+            let inside = column.saturating_sub(meant.column);
+            word.column.saturating_add(inside.min(word.bytes.len()))
+        }
+        _ => 1,
     }
-}
-
-/// How many bytes the last word of a line has.
-fn last_word(line: &[u8]) -> usize {
-    let mut length: usize = 0;
-    for byte in line {
-        length = if *byte == b' ' {
-            0
-        } else {
-            length.saturating_add(1)
-        };
-    }
-    length
 }
 
 /// The word at that place of a line that a person wrote. Places count from 0.
 pub fn own_word(line: &[u8], place: usize) -> Option<Word<'_>>
-    ensures column { IfSome result (λ word. IsColumn line.now word.column) }
-    ensures within { IfSome result (λ word.
-        word.column + length word.bytes.now ≤ length line.now + 1) }
+    ensures { IfSome result (λ word. IsColumn line.now word.column) }
 {
     let mut left = line;
     for _earlier in 0..place {

@@ -7,18 +7,15 @@ ghost use Rattle.tx_check.specs.declared.trouble.LineTrouble.TheVariants as trou
 ghost use Rattle.tx_check.specs.declared.trouble.What.TheVariants as whats;
 ghost use Rattle.tx_plain.specs.OwnLines.{without_return};
 
+use crate::diagnose::shapes::BYTE_ORDER_MARK;
 use crate::own::own_word;
 use crate::trouble::{LineTrouble, Names, Trouble, What, WordTrouble};
 use tx_lines::LINE_BYTES;
 use tx_plain::{MeantLines, split_word};
 
-/// What some editors put before a text.
-const BYTE_ORDER_MARK: [u8; 3] = [0xef, 0xbb, 0xbf];
-
 /// What is told of a line where that trouble was found: the trouble, where what it says is so in
 /// its column. Of a line that is too long nothing else is told.
 pub fn placed<'a>(line: &'a [u8], trouble: Trouble<'a>) -> Trouble<'a>
-    requires { IsColumn line.now trouble.column }
     ensures column { IsColumn line.now result.column }
     ensures line { IsPlacedInLine line.now result.column result.what }
     ensures word { IfSome (word_of result.what) (λ word. IsWordAt line.now result.column word) }
@@ -30,6 +27,7 @@ pub fn placed<'a>(line: &'a [u8], trouble: Trouble<'a>) -> Trouble<'a>
     if before_return(line).len() > LINE_BYTES {
         return Trouble::of_line(LINE_BYTES + 1, LineTrouble::TooLong);
     }
+    let trouble = trouble.within(line);
     if is_of_length(line, &trouble.what) {
         return trouble;
     }
@@ -74,14 +72,15 @@ fn no_label<'a>(line: &'a [u8], text: MeantLines<'a>, word: &'a [u8]) -> Trouble
         if is_word_at(line, at + 1, word) {
             return Trouble {
                 column: at + 1,
-                what: What::NoSuch(Names::Labels(text), word),
+                what: What::Word(word, WordTrouble::NoSuch(Names::Labels(text))),
             };
         }
     }
     let column = line.len() + 1;
+    let word = word_from(line, column);
     Trouble {
         column,
-        what: What::NoSuch(Names::Labels(text), word_from(line, column)),
+        what: What::Word(word, WordTrouble::NoSuch(Names::Labels(text))),
     }
 }
 
@@ -376,11 +375,7 @@ fn is_byte_at(line: &[u8], column: usize, byte: u8) -> bool
     requires { IsColumn line.now column }
     ensures { IsTrue result → IsByteAt line.now column byte }
 {
-    let (_front, left) = line.split_at(column - 1);
-    match behind([byte].as_slice(), left) {
-        Some(_rest) => true,
-        None => false,
-    }
+    is_at(line, column, [byte].as_slice())
 }
 
 /// Whether that word is in that column of a line.

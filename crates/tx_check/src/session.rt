@@ -1,8 +1,7 @@
 //! Tells of a line of a session what is wrong with it.
-ghost use Rattle.std.specs.Prelude.{◌≡◌, ◌≤◌, [], IfOk, IfSome, OnOk, length, string_bytes};
-ghost use Rattle.tx_check.specs.Speaking.{SpeaksAt};
+ghost use Rattle.std.specs.Prelude.{◌≡◌, ◌≤◌, ◌++◌, IfOk, IfSome, OnOk, codes, length, string_bytes};
+ghost use Rattle.std.specs.Fmt.{decimal};
 ghost use Rattle.tx_check.specs.Sessions.{IsSessionTold};
-ghost use Rattle.tx_check.specs.Told.{IsColumn, IsInLine};
 
 mod asks;
 mod heads;
@@ -21,8 +20,9 @@ use crate::session::heads::head_trouble;
 use crate::trouble::{LineTrouble, Trouble, WordTrouble};
 use crate::words::{Word, word_at};
 use std::alloc::{AllocError, Global};
+use std::fmt::Write;
 use tx_base::NoMemory;
-use tx_lines::{LINE_BYTES, Version, put, put_count};
+use tx_lines::{LINE_BYTES, Version};
 use tx_plain::{Room, plain_line};
 
 /// What is wrong with a line of a session that is neither a step nor asks for anything: `column C: `
@@ -46,22 +46,16 @@ pub fn session_line(
     let trouble = placed(line, trouble);
     let words = sentence(alloc, &trouble.what)?;
     let mut told = String::new(alloc);
-    put_column(&mut told, line, trouble.column as u64, words.as_str())?;
+    put_column(&mut told, trouble.column as u64, words.as_str())?;
     Ok(told)
 }
 
-/// Puts a sentence at that column of a line into a text that is empty.
-fn put_column(told: &mut String, line: &[u8], column: u64, sentence: &str) -> Result<(), AllocError>
-    requires empty { string_bytes told.old ≡ [] }
-    requires column { IsColumn line.now column }
-    requires sentence { IsInLine sentence.now }
-    requires speaks { SpeaksAt line.now column sentence.now }
-    ensures { OnOk result (IsSessionTold line.now (string_bytes told.new)) }
+/// Appends that sentence behind that column.
+fn put_column(told: &mut String, column: u64, sentence: &str) -> Result<(), AllocError>
+    ensures { OnOk result (string_bytes told.new ≡ string_bytes told.old
+        ++ (codes "column " ++ (decimal column ++ (codes ": " ++ sentence.now)))) }
 {
-    put(told, "column ")?;
-    put_count(told, column)?;
-    put(told, ": ")?;
-    put(told, sentence)
+    write!(told, "column {column}: {sentence}")
 }
 
 /// What is wrong with a line of a session.
@@ -70,40 +64,26 @@ fn session_trouble<'a>(
     version: Version,
     line: &'a [u8],
     room: &'a mut Room,
-) -> Trouble<'a>
-    ensures { IsColumn line.now result.column }
-{
+) -> Trouble<'a> {
     if line.len() > LINE_BYTES {
         return Trouble::of_line(LINE_BYTES + 1, LineTrouble::TooLong);
     }
-    if let Some(step) = asked_step(is_third, line) {
-        let trouble = alone_trouble(is_third, version, step, room);
-        return Trouble {
-            column: trouble.column + (line.len() - step.len()),
-            what: trouble.what,
-        };
+    let step = asked_step(is_third, line);
+    let asked = step.unwrap_or(line);
+    let Some(meant) = meant_line(is_third, asked, room) else {
+        return Trouble::of_line(line.len() - asked.len() + 1, LineTrouble::Empty);
+    };
+    let part = if step.is_some() {
+        Part::Step
+    } else {
+        part_of(meant)
+    };
+    let trouble = line_trouble(version, meant, step.is_some());
+    let trouble = own_trouble(is_third, part, meant, asked, trouble);
+    Trouble {
+        column: trouble.column.saturating_add(line.len() - asked.len()),
+        what: trouble.what,
     }
-    let Some(meant) = meant_line(is_third, line, room) else {
-        return Trouble::of_line(1, LineTrouble::Empty);
-    };
-    let trouble = words_trouble(version, meant);
-    own_trouble(is_third, part_of(meant), meant, line, trouble)
-}
-
-/// What is wrong with a line that is to be a step alone.
-fn alone_trouble<'a>(
-    is_third: bool,
-    version: Version,
-    line: &'a [u8],
-    room: &'a mut Room,
-) -> Trouble<'a>
-    ensures { IsColumn line.now result.column }
-{
-    let Some(meant) = meant_line(is_third, line, room) else {
-        return Trouble::of_line(1, LineTrouble::Empty);
-    };
-    let trouble = step_words_trouble(version, meant);
-    own_trouble(is_third, Part::Step, meant, line, trouble)
 }
 
 /// What a line means. Nothing where it is of version 3 and has no word.
@@ -158,46 +138,26 @@ fn begins_step(first: Word<'_>) -> bool {
     }
 }
 
-/// What is wrong with the words of a line.
-fn words_trouble<'a>(version: Version, line: &'a [u8]) -> Trouble<'a>
-    ensures { IsColumn line.now result.column }
-{
+/// What is wrong with what a line means, which is to be a step alone, or else may ask for something too.
+fn line_trouble<'a>(version: Version, line: &'a [u8], is_step: bool) -> Trouble<'a> {
     if let Some(trouble) = shape_trouble(line) {
         return trouble;
     }
     let trouble = match word_at(line, 0) {
         Some(first) if begins_step(first) => step_trouble(version, line),
+        Some(first) if is_step => Some(no_step(first, version, line)),
         Some(first) if first.bytes == b"txos".as_slice() => Some(head_trouble(line)),
         _ => ask_trouble(version, line),
     };
     match trouble {
         Some(trouble) => trouble,
+        None if is_step => Trouble::of_line(1, LineTrouble::NoStep),
         None => Trouble::of_line(1, LineTrouble::NeitherStepNorCommand),
     }
 }
 
-/// What is wrong with the words of a line that is to be a step.
-fn step_words_trouble<'a>(version: Version, line: &'a [u8]) -> Trouble<'a>
-    ensures { IsColumn line.now result.column }
-{
-    if let Some(trouble) = shape_trouble(line) {
-        return trouble;
-    }
-    let trouble = match word_at(line, 0) {
-        Some(first) if begins_step(first) => step_trouble(version, line),
-        Some(first) => Some(no_step(first, version, line)),
-        None => None,
-    };
-    match trouble {
-        Some(trouble) => trouble,
-        None => Trouble::of_line(1, LineTrouble::NoStep),
-    }
-}
-
 /// What is wrong with a first word that begins no step.
-fn no_step<'a>(first: Word<'a>, version: Version, line: &'a [u8]) -> Trouble<'a>
-    ensures { result.column ≡ first.entry.column }
-{
+fn no_step<'a>(first: Word<'a>, version: Version, line: &'a [u8]) -> Trouble<'a> {
     match call_alone(first, version, line) {
         Some(trouble) => trouble,
         None => Trouble::of_word(first, WordTrouble::NoProcess),

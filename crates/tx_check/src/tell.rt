@@ -1,8 +1,8 @@
 //! Puts what is told of lines behind one another.
-ghost use Rattle.std.specs.Prelude.{◌≡◌, ◌<◌, OnOk, length, string_bytes};
+ghost use Rattle.std.specs.Prelude.{◌≡◌, ◌<◌, ◌++◌, ◌∷◌, [], OnOk, codes, length, string_bytes};
+ghost use Rattle.std.specs.Fmt.{decimal};
 ghost use Rattle.tx_check.specs.Speaking.{kind_of_what, line_sentence, FaultKind, IsFitting, IsOfKind, SpeaksAt};
-ghost use Rattle.tx_check.specs.ToldKinds.{TellsOfKind};
-ghost use Rattle.tx_check.specs.Told.{IsColumn, IsInLine, Tells};
+ghost use Rattle.tx_check.specs.Told.{IsColumn, IsInLine, Tells, TellsOfKind};
 ghost use Rattle.tx_check.specs.declared.trouble.LineTrouble.TheVariants as troubles;
 ghost use Rattle.tx_plain.specs.OwnLines.{without_return};
 
@@ -11,8 +11,8 @@ use crate::places::TextLine;
 use crate::sentences::sentence;
 use crate::trouble::Trouble;
 use std::alloc::{AllocError, Global};
+use std::fmt::Write;
 use tx_base::NoMemory;
-use tx_lines::{put, put_count};
 
 /// Appends what is told of a line. The only error is that a growth of memory was
 /// refused: the text may then have some of it behind what it had.
@@ -22,7 +22,6 @@ pub fn tell(
     line: TextLine<'_>,
     trouble: Trouble<'_>,
 ) -> Result<(), NoMemory>
-    requires { IsColumn line.bytes.now trouble.column }
     ensures tells { OnOk result (Tells line.entry.number line.entry.bytes.now
         (string_bytes told.old) (string_bytes told.new)) }
     ensures kind { OnOk result (IsFitting line.entry.bytes.now trouble.entry.what →
@@ -53,11 +52,14 @@ fn put_told(
         TellsOfKind kind line.entry.number line.entry.bytes.now (string_bytes told.old)
         (string_bytes told.new)) }
 {
-    put(told, "line ")?;
-    put_count(told, line.number)?;
-    put(told, ", column ")?;
-    put_count(told, column)?;
-    put(told, ": ")?;
-    put(told, sentence)?;
-    put(told, "\n")
+    put_line(told, line.number, column, sentence)
+}
+
+/// Appends a line that tells that sentence of the line of that number.
+fn put_line(told: &mut String, number: u64, column: u64, sentence: &str) -> Result<(), AllocError>
+    ensures { OnOk result (string_bytes told.new ≡ string_bytes told.old ++ (codes "line "
+        ++ (decimal number ++ (codes ", column " ++ (decimal column
+        ++ (codes ": " ++ (sentence.now ++ 10 ∷ []))))))) }
+{
+    write!(told, "line {number}, column {column}: {sentence}\n")
 }

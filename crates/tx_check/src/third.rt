@@ -1,50 +1,38 @@
 //! What is wrong with a line of version 2, as it is told of the line of version 3 that means it.
-ghost use Rattle.std.specs.Prelude.{◌≡◌};
-ghost use Rattle.tx_check.specs.Speaking.{kind_of_what, OfGrammar};
-ghost use Rattle.tx_check.specs.Told.{IsColumn};
-ghost use Rattle.tx_check.specs.declared.trouble.LineTrouble.TheVariants as troubles;
-ghost use Rattle.tx_check.specs.declared.trouble.What.TheVariants as whats;
-
 mod sets;
-pub mod strings;
+mod strings;
 
+use crate::diagnose::bytes::digits_trouble;
 use crate::places::Part;
-use crate::third::sets::set_what;
+use crate::third::sets::set_trouble;
+use crate::third::strings::string_trouble;
 use crate::trouble::{Trouble, What, WordTrouble};
-use crate::words::{count_words, word_at};
+use crate::words::word_at;
 use tx_plain::{Role, role_of};
 
-/// How many digits a word may have.
-const DIGITS: usize = 128;
-
-/// What is wrong at a column of a line, as it is told of the line of version 3 that means it.
-pub fn third_what<'a>(part: Part, line: &'a [u8], trouble: Trouble<'a>) -> What<'a>
-    requires { IsColumn line.now trouble.column }
-    ensures kind { kind_of_what result ≡ kind_of_what trouble.entry.what }
-    ensures long { result ≡ whats.Line troubles.TooLong →
-        trouble.entry.what ≡ whats.Line troubles.TooLong }
-{
-    match trouble.what {
-        What::Word(_word, _wrong) => word_what(part, line, trouble),
-        What::NoSignal(_) | What::NoSignalIn { .. } => word_what(part, line, trouble),
-        what => what,
+/// What is wrong with a line, told at a column of its own line: in the line that is meant it was found
+/// at the word of that place.
+pub fn third_trouble<'a>(
+    part: Part,
+    line: &'a [u8],
+    place: usize,
+    own: &'a [u8],
+    found: Trouble<'a>,
+) -> Trouble<'a> {
+    if let Some(trouble) = string_trouble(line, own, found.column, &found.what) {
+        return trouble;
     }
-}
-
-/// What is wrong with a word, by what it is to be.
-fn word_what<'a>(part: Part, line: &'a [u8], trouble: Trouble<'a>) -> What<'a>
-    requires column { IsColumn line.now trouble.column }
-    requires kind { kind_of_what trouble.what ≡ OfGrammar }
-    ensures { kind_of_what result ≡ OfGrammar }
-{
-    let place = count_words(&line[..trouble.column - 1]) - 1;
-    match role_at(part, line, place) {
-        Role::Signal => signal_what(trouble.what),
-        Role::Set => match word_at(line, place) {
-            Some(set) => set_what(set.bytes),
-            None => trouble.what,
-        },
-        Role::Other | Role::Bytes => other_what(trouble.what),
+    let What::Word(word, wrong) = found.what else {
+        return found;
+    };
+    let wrong = match role_at(part, line, place) {
+        Role::Signal => signal_trouble(wrong),
+        Role::Set => set_trouble(word),
+        Role::Other | Role::Bytes => other_trouble(word, wrong),
+    };
+    Trouble {
+        column: found.column,
+        what: What::Word(word, wrong),
     }
 }
 
@@ -65,40 +53,22 @@ fn role_at(part: Part, line: &[u8], place: usize) -> Role {
 }
 
 /// What is wrong with a word that is to be a signal.
-fn signal_what(what: What<'_>) -> What<'_>
-    requires { kind_of_what what ≡ OfGrammar }
-    ensures { kind_of_what result ≡ OfGrammar }
-{
-    match what {
-        What::Word(word, WordTrouble::SignalName) => What::NoSignal(word),
-        What::Word(word, WordTrouble::NoNumber) => What::NoSignal(word),
-        _ => what,
-    }
-}
-
-/// What is wrong with another word.
-fn other_what(what: What<'_>) -> What<'_>
-    requires { kind_of_what what ≡ OfGrammar }
-    ensures { kind_of_what result ≡ OfGrammar }
-{
-    let What::Word(word, wrong) = what else {
-        return what;
-    };
+fn signal_trouble<'a>(wrong: WordTrouble<'a>) -> WordTrouble<'a> {
     match wrong {
-        WordTrouble::SignalName => What::Word(word, WordTrouble::NoNumber),
-        WordTrouble::UpperCase | WordTrouble::NoHexDigits => What::Word(word, digits_trouble(word)),
-        _ => what,
+        WordTrouble::SignalName | WordTrouble::NoNumber => WordTrouble::NoSignal,
+        _ => wrong,
     }
 }
 
-/// What is wrong with the digits of a word that is no bytes, in either case and behind `0x` or not.
-fn digits_trouble(word: &[u8]) -> WordTrouble {
-    let digits = word.strip_prefix(b"0x".as_slice()).unwrap_or(word);
-    if !digits.iter().all(|byte| byte.is_ascii_hexdigit()) {
-        return WordTrouble::NoHexDigits;
+/// What is wrong with a word that is to be neither a signal nor a set. Digits may be of either case, and
+/// behind `0x`.
+fn other_trouble<'a>(word: &[u8], wrong: WordTrouble<'a>) -> WordTrouble<'a> {
+    match wrong {
+        WordTrouble::SignalName => WordTrouble::NoNumber,
+        WordTrouble::UpperCase | WordTrouble::NoHexDigits => {
+            let digits = word.strip_prefix(b"0x".as_slice()).unwrap_or(word);
+            digits_trouble(digits, true)
+        }
+        _ => wrong,
     }
-    if digits.len() > DIGITS {
-        return WordTrouble::TooManyBytes;
-    }
-    WordTrouble::OddDigits
 }

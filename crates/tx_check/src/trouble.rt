@@ -2,7 +2,7 @@
 ghost use Rattle.std.specs.Prelude.{◌≡◌, ◌≢◌, true, option_map, IfNone, IfSome, IsTrue};
 ghost use Rattle.tx_check.specs.Speaking.{is_front, kind_of_line, kind_of_names, kind_of_what, no_label, word_of, OfGrammar, OfLabel};
 ghost use Rattle.tx_check.specs.Speaking as spec;
-ghost use Rattle.tx_check.specs.Told.{IsInLine};
+ghost use Rattle.tx_check.specs.Told.{IsColumn, IsInLine};
 ghost use Rattle.tx_check.specs.declared.trouble.What.TheVariants as whats;
 
 use crate::forms::Form;
@@ -23,48 +23,10 @@ pub struct Trouble<'a> {
 pub enum What<'a> {
     /// The line as a whole.
     Line(LineTrouble),
-    /// A word.
-    Word(&'a [u8], WordTrouble),
     /// A byte that stands in no line.
     OddByte(u8),
-    /// A name that is none of these.
-    NoSuch(Names<'a>, &'a [u8]),
-    /// A name with too few or too many words behind it: what it takes, and how many there are.
-    Takes {
-        name: &'a [u8],
-        form: Form,
-        got: usize,
-    },
-    /// The first word of a line that is a call, and no process stands before it.
-    LineAlone(&'a [u8], &'a [u8]),
-    /// The same of a line that only begins as that call does.
-    CallAlone(&'a [u8], Form),
-    /// A number, or what could be one, that is out of its range.
-    OutOfRange {
-        word: &'a [u8],
-        range: &'static str,
-    },
-    /// A word of a text of version 3, which is spelled in a way of that version.
-    Third(&'a [u8], ThirdTrouble),
-    /// A word that is none of some, which are parted by `|`.
-    NoneOf {
-        word: &'a [u8],
-        choices: &'static [u8],
-    },
-    /// A word of characters where their bytes are wanted in hex.
-    InHex(&'a [u8]),
-    /// A word that is no signal's name or number.
-    NoSignal(&'a [u8]),
-    /// A set with a member that is none.
-    NoSignalIn {
-        set: &'a [u8],
-        member: &'a [u8],
-    },
-    /// A label whose name stands in an earlier line.
-    SecondLabel {
-        name: &'a [u8],
-        line: u64,
-    },
+    /// A word.
+    Word(&'a [u8], WordTrouble<'a>),
 }
 
 /// Names that there are.
@@ -125,7 +87,28 @@ pub enum LineTrouble {
 
 /// What is wrong with a word.
 #[derive(Clone, Copy)]
-pub enum WordTrouble {
+pub enum WordTrouble<'a> {
+    /// A name that is none of these.
+    NoSuch(Names<'a>),
+    /// A name with too few or too many words behind it: what it takes, and how many there are.
+    Takes(Form, usize),
+    /// The first word of this line, which is a call, and no process stands before it.
+    LineAlone(&'a [u8]),
+    /// The same of a line that only begins as that call does.
+    CallAlone(Form),
+    /// A number, or what could be one, that is out of this range.
+    OutOfRange(&'static str),
+    /// None of these words, which are parted by `|`.
+    NoneOf(&'static [u8]),
+    /// Characters where their bytes are wanted in hex.
+    InHex,
+    /// No signal's name or number.
+    NoSignal,
+    /// A set with this member, which is none.
+    NoSignalIn(&'a [u8]),
+    /// A label whose name stands in that earlier line.
+    SecondLabel(u64),
+    /// The rest says only what is wanted.
     NoVersion,
     NoTextKind,
     NoNumber,
@@ -146,17 +129,13 @@ pub enum WordTrouble {
     SignalFirst,
     SingleQuotes,
     NoneHere,
-}
-
-/// What is wrong with a word that only a text of version 3 spells so.
-#[derive(Clone, Copy)]
-pub enum ThirdTrouble {
+    /// These are of version 3 alone.
     OpenString,
     NoEscape,
     StringSize,
     BehindString,
     NoStore,
-    NoSet,
+    NoSignals,
     Twice,
 }
 
@@ -166,12 +145,7 @@ impl<'a> What<'a> {
         ensures { option_map (λ word. word.now) result ≡ word_of self.now }
     {
         match self {
-            What::Word(word, _) | What::Third(word, _) | What::NoSuch(_, word) => Some(word),
-            What::Takes { name, .. } | What::SecondLabel { name, .. } => Some(name),
-            What::LineAlone(word, _) | What::CallAlone(word, _) => Some(word),
-            What::OutOfRange { word, .. } | What::NoneOf { word, .. } => Some(word),
-            What::InHex(word) | What::NoSignal(word) => Some(word),
-            What::NoSignalIn { set, .. } => Some(set),
+            What::Word(word, _trouble) => Some(word),
             What::Line(_) | What::OddByte(_) => None,
         }
     }
@@ -182,7 +156,7 @@ impl<'a> What<'a> {
     {
         match self {
             What::Line(trouble) => trouble.is_of_grammar(),
-            What::NoSuch(Names::Labels(_), _) => false,
+            What::Word(_word, WordTrouble::NoSuch(Names::Labels(_))) => false,
             _ => true,
         }
     }
@@ -193,7 +167,7 @@ impl<'a> What<'a> {
         ensures none { IfNone result (kind_of_what self.now ≢ OfLabel) }
     {
         match self {
-            What::NoSuch(Names::Labels(text), word) => Some((*text, word)),
+            What::Word(word, WordTrouble::NoSuch(Names::Labels(text))) => Some((*text, word)),
             _ => None,
         }
     }
@@ -206,9 +180,9 @@ impl<'a> What<'a> {
         ensures other { kind_of_what self.now ≡ OfGrammar → result.now ≢ no_label }
     {
         match self {
-            What::NoSuch(names, word) => names.front_of(word),
-            What::NoSignal(_) => "there is no signal ",
-            What::SecondLabel { .. } => "label ",
+            What::Word(word, WordTrouble::NoSuch(names)) => names.front_of(word),
+            What::Word(_word, WordTrouble::NoSignal) => "there is no signal ",
+            What::Word(_word, WordTrouble::SecondLabel(_line)) => "label ",
             _ => "",
         }
     }
@@ -222,19 +196,9 @@ impl Names<'_> {
         ensures label { kind_of_names self.now ≡ OfLabel → result.now ≡ no_label }
         ensures other { kind_of_names self.now ≡ OfGrammar → result.now ≢ no_label }
     {
-        match left_out(*self, word) {
-            Some(_reason) => "",
-            None => self.front(),
+        if let Some(_reason) = left_out(*self, word) {
+            return "";
         }
-    }
-
-    /// What is said before a name that is none of those.
-    fn front(&self) -> &'static str
-        ensures front { is_front result.now ≡ true }
-        ensures in_line { IsInLine result.now }
-        ensures label { kind_of_names self.now ≡ OfLabel → result.now ≡ no_label }
-        ensures other { kind_of_names self.now ≡ OfGrammar → result.now ≢ no_label }
-    {
         match self {
             Names::Calls | Names::Instructions => "no such call: ",
             Names::Commands | Names::Session => "no such command: ",
@@ -257,13 +221,28 @@ impl Trouble<'_> {
     }
 
     /// That trouble with a word.
-    pub fn of_word<'a>(word: Word<'a>, trouble: WordTrouble) -> Trouble<'a>
-        ensures column { result.column ≡ word.entry.column }
-        ensures kind { kind_of_what result.what ≡ OfGrammar }
+    pub fn of_word<'a>(word: Word<'a>, trouble: WordTrouble<'a>) -> Trouble<'a>
+        ensures { result.what ≡ whats.Word word.entry.bytes trouble.entry }
     {
         Trouble {
             column: word.column,
             what: What::Word(word.bytes, trouble),
+        }
+    }
+}
+
+impl<'a> Trouble<'a> {
+    /// The same at a column of that line: at the first, where it is at none.
+    pub fn within(self, line: &[u8]) -> Trouble<'a>
+        ensures column { IsColumn line.now result.column }
+        ensures what { result.what ≡ self.entry.what }
+    {
+        if self.column > 0 && self.column <= line.len() + 1 {
+            return self;
+        }
+        Trouble {
+            column: 1,
+            what: self.what,
         }
     }
 }
@@ -367,11 +346,9 @@ impl LineTrouble {
     }
 }
 
-impl WordTrouble {
-    /// What is said behind the word.
-    pub fn sentence(self) -> &'static str
-        ensures { IsInLine result.now }
-    {
+impl WordTrouble<'_> {
+    /// What is said behind the word, where that is what is wanted. Nothing else.
+    pub fn sentence(self) -> &'static str {
         match self {
             WordTrouble::NoVersion => "the version is 1, 2 or 3",
             WordTrouble::NoTextKind => "schedule or program is wanted",
@@ -390,38 +367,20 @@ impl WordTrouble {
             WordTrouble::NoName => "a name has 1 to 16 of a to z, 0 to 9 and _, a letter first",
             WordTrouble::NoLabel => "a label is wanted: @NAME",
             WordTrouble::NoSlot => "slots are $0 to $7",
-            _ => self.elsewhere(),
-        }
-    }
-
-    /// What is said behind a word as other programs have it.
-    fn elsewhere(self) -> &'static str
-        ensures { IsInLine result.now }
-    {
-        match self {
             WordTrouble::LabelColon => "a label is a line label NAME",
             WordTrouble::SessionCommand => "this is a command of txos shell, and of no text",
             WordTrouble::SignalFirst => "the process comes first, then the signal",
             WordTrouble::NoneHere => "this line is none that may stand here",
-            _ => "a string is in double quotes, in version 3: \"text\"",
-        }
-    }
-}
-
-impl ThirdTrouble {
-    /// What is said behind the word.
-    pub fn sentence(self) -> &'static str
-        ensures { IsInLine result.now }
-    {
-        match self {
-            ThirdTrouble::OpenString => "a string ends with \" in its line",
-            ThirdTrouble::NoEscape =>
+            WordTrouble::SingleQuotes => { "a string is in double quotes, in version 3: \"text\"" }
+            WordTrouble::OpenString => "a string ends with \" in its line",
+            WordTrouble::NoEscape =>
                 "the escapes of a string are \\n, \\t, \\0, \\\" and \\\\; hex digits are any bytes",
-            ThirdTrouble::StringSize => "a string has 1 to 64 bytes",
-            ThirdTrouble::BehindString => "a space is wanted after a string",
-            ThirdTrouble::NoStore => "a string is only the bytes of a store: store A \"text\"",
-            ThirdTrouble::NoSet => "a set is - for none, or signals joined by commas",
-            ThirdTrouble::Twice => "a signal is in the set twice",
+            WordTrouble::StringSize => "a string has 1 to 64 bytes",
+            WordTrouble::BehindString => "a space is wanted after a string",
+            WordTrouble::NoStore => "a string is only the bytes of a store: store A \"text\"",
+            WordTrouble::NoSignals => "a set is - for none, or signals joined by commas",
+            WordTrouble::Twice => "a signal is in the set twice",
+            _ => "",
         }
     }
 }

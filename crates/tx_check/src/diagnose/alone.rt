@@ -1,29 +1,20 @@
 //! What is wrong with a call that has no process before it.
-ghost use Rattle.std.specs.Prelude.{◌≡◌, IfSome};
-ghost use Rattle.tx_check.specs.Speaking.{kind_of_what, OfGrammar};
-
 use crate::diagnose::calls::call_trouble;
 use crate::forms::{CALLS, Form, form_of};
-use crate::trouble::{Trouble, What};
+use crate::trouble::{Trouble, WordTrouble};
 use crate::words::Word;
 use tx_lines::{TextKind, Version};
 
 /// What is wrong with a line whose first word is the name of a call, or begins with one. Nothing
 /// where it is another word.
-pub fn call_alone<'a>(first: Word<'a>, version: Version, line: &'a [u8]) -> Option<Trouble<'a>>
-    ensures column { IfSome result (λ trouble. trouble.column ≡ first.entry.column) }
-    ensures kind { IfSome result (λ trouble. kind_of_what trouble.what ≡ OfGrammar) }
-{
+pub fn call_alone<'a>(first: Word<'a>, version: Version, line: &'a [u8]) -> Option<Trouble<'a>> {
     let form = form_of(CALLS.as_slice(), name_in(first.bytes))?;
-    let what = if is_whole(form, version, line) {
-        What::LineAlone(first.bytes, line)
+    let trouble = if is_whole(form, version, line) {
+        WordTrouble::LineAlone(line)
     } else {
-        What::CallAlone(first.bytes, form)
+        WordTrouble::CallAlone(form)
     };
-    Some(Trouble {
-        column: first.column,
-        what,
-    })
+    Some(Trouble::of_word(first, trouble))
 }
 
 /// Whether a line is a whole call. The words behind a `kill` may be the signal and the process, as a

@@ -1,8 +1,5 @@
 //! What is wrong with a word that is to be bytes in hex digits.
-ghost use Rattle.std.specs.Prelude.{◌≡◌, IfSome};
-ghost use Rattle.tx_check.specs.Speaking.{kind_of_what, OfGrammar};
-
-use crate::trouble::{Trouble, What, WordTrouble};
+use crate::trouble::{Trouble, WordTrouble};
 use crate::words::Word;
 use arrayvec::ArrayVec;
 use tx_lines::read_bytes;
@@ -11,34 +8,27 @@ use tx_lines::read_bytes;
 const DIGITS: usize = 128;
 
 /// What is wrong where bytes are wanted.
-pub fn bytes_trouble<'a>(word: Word<'a>) -> Option<Trouble<'a>>
-    ensures column { IfSome result (λ trouble. trouble.column ≡ word.entry.column) }
-    ensures kind { IfSome result (λ trouble. kind_of_what trouble.what ≡ OfGrammar) }
-{
+pub fn bytes_trouble<'a>(word: Word<'a>) -> Option<Trouble<'a>> {
     if read_bytes(word.bytes, &mut ArrayVec::new()) {
         return None;
     }
-    if word.bytes.starts_with(b"\"") {
-        return Some(Trouble {
-            column: word.column,
-            what: What::InHex(word.bytes),
-        });
-    }
-    if word.bytes.starts_with(b"'") {
-        return Some(Trouble::of_word(word, WordTrouble::SingleQuotes));
-    }
-    Some(Trouble::of_word(word, digits_trouble(word.bytes)))
+    let trouble = match word.bytes {
+        [b'"', ..] => WordTrouble::InHex,
+        [b'\'', ..] => WordTrouble::SingleQuotes,
+        digits => digits_trouble(digits, false),
+    };
+    Some(Trouble::of_word(word, trouble))
 }
 
-/// What is wrong with the digits of a word that is no bytes.
-fn digits_trouble(word: &[u8]) -> WordTrouble {
-    if !word.iter().all(|byte| byte.is_ascii_hexdigit()) {
+/// What is wrong with the digits of a word that is no bytes, where they may be of either case or not.
+pub fn digits_trouble(digits: &[u8], is_either_case: bool) -> WordTrouble<'static> {
+    if !digits.iter().all(|byte| byte.is_ascii_hexdigit()) {
         return WordTrouble::NoHexDigits;
     }
-    if word.iter().any(|byte| byte.is_ascii_uppercase()) {
+    if !is_either_case && digits.iter().any(|byte| byte.is_ascii_uppercase()) {
         return WordTrouble::UpperCase;
     }
-    if word.len() > DIGITS {
+    if digits.len() > DIGITS {
         return WordTrouble::TooManyBytes;
     }
     WordTrouble::OddDigits

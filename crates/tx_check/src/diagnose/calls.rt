@@ -1,12 +1,8 @@
 //! What is wrong with a call, in a step or an instruction.
-ghost use Rattle.std.specs.Prelude.{◌≡◌, IfSome};
-ghost use Rattle.tx_check.specs.Speaking.{kind_of_what, OfGrammar};
-ghost use Rattle.tx_check.specs.Told.{IsColumn};
-
 use crate::diagnose::fields::field_trouble;
 use crate::diagnose::numbers::is_signal_name;
 use crate::forms::{CALLS, Form, field_of, form_of};
-use crate::trouble::{LineTrouble, Names, Trouble, What, WordTrouble};
+use crate::trouble::{LineTrouble, Names, Trouble, WordTrouble};
 use crate::words::{Word, count_words, word_at};
 use tx_lines::{TextKind, Version};
 
@@ -16,10 +12,7 @@ pub fn call_trouble<'a>(
     version: Version,
     line: &'a [u8],
     place: usize,
-) -> Option<Trouble<'a>>
-    ensures column { IfSome result (λ trouble. IsColumn line.now trouble.column) }
-    ensures kind { IfSome result (λ trouble. kind_of_what trouble.what ≡ OfGrammar) }
-{
+) -> Option<Trouble<'a>> {
     let name = word_at(line, place)?;
     let Some(form) = call_form(kind, name.bytes) else {
         return Some(no_such_call(kind, name));
@@ -27,7 +20,7 @@ pub fn call_trouble<'a>(
     let behind = count_words(line).saturating_sub(place).saturating_sub(1);
     let words = words_of(form, line, place);
     if behind != count_of(words) {
-        return Some(takes(name, form, behind));
+        return Some(Trouble::of_word(name, WordTrouble::Takes(form, behind)));
     }
     if let Some(trouble) = signal_first(form, line, place) {
         return Some(trouble);
@@ -44,10 +37,7 @@ pub fn call_trouble<'a>(
 }
 
 /// What is wrong with a call that sends a signal, where the signal is first, as a shell has it.
-fn signal_first<'a>(form: Form, line: &'a [u8], place: usize) -> Option<Trouble<'a>>
-    ensures column { IfSome result (λ trouble. IsColumn line.now trouble.column) }
-    ensures kind { IfSome result (λ trouble. kind_of_what trouble.what ≡ OfGrammar) }
-{
+fn signal_first<'a>(form: Form, line: &'a [u8], place: usize) -> Option<Trouble<'a>> {
     if form.name != "kill" && form.name != "sigqueue" {
         return None;
     }
@@ -71,33 +61,26 @@ fn call_form(kind: TextKind, name: &[u8]) -> Option<Form> {
 }
 
 /// A name that no call of a text of that kind has.
-fn no_such_call<'a>(kind: TextKind, name: Word<'a>) -> Trouble<'a>
-    ensures column { result.column ≡ name.entry.column }
-    ensures kind { kind_of_what result.what ≡ OfGrammar }
-{
+fn no_such_call<'a>(kind: TextKind, name: Word<'a>) -> Trouble<'a> {
     let names = match kind {
         TextKind::Schedule => Names::Calls,
         TextKind::Program => Names::Instructions,
     };
-    Trouble {
-        column: name.column,
-        what: What::NoSuch(names, name.bytes),
-    }
+    Trouble::of_word(name, WordTrouble::NoSuch(names))
 }
 
-/// A name that takes those words, with so many behind it.
-pub fn takes<'a>(name: Word<'a>, form: Form, got: usize) -> Trouble<'a>
-    ensures column { result.column ≡ name.entry.column }
-    ensures kind { kind_of_what result.what ≡ OfGrammar }
-{
-    Trouble {
-        column: name.column,
-        what: What::Takes {
-            name: name.bytes,
-            form,
-            got,
-        },
+/// What is wrong with the words behind the first one of a line, which has that form.
+pub fn form_trouble<'a>(
+    kind: TextKind,
+    form: Form,
+    first: Word<'a>,
+    line: &'a [u8],
+) -> Option<Trouble<'a>> {
+    let behind = count_words(line).saturating_sub(1);
+    if behind != count_of(form.words) {
+        return Some(Trouble::of_word(first, WordTrouble::Takes(form, behind)));
     }
+    arguments_trouble(kind, form.words, line, 0)
 }
 
 /// How many words a form has.
@@ -112,54 +95,38 @@ pub fn count_of(words: &str) -> usize {
 /// stands at that place.
 fn words_of(form: Form, line: &[u8], place: usize) -> &'static str {
     match form.name {
-        "sys_xbegin" => begin_words(word_at(line, place.saturating_add(1))),
+        "sys_xbegin" if word_at(line, place.saturating_add(1)).is_none() => "",
+        "sys_xbegin" => "defer",
         "sigaction" => action_words(word_at(line, place.saturating_add(2))),
         "jump" => jump_words(word_at(line, place.saturating_add(2))),
         _ => form.words,
     }
 }
 
-/// What a sys_xbegin takes, by the word behind it.
-fn begin_words(word: Option<Word<'_>>) -> &'static str {
-    match word {
-        Some(_word) => "defer",
-        None => "",
-    }
-}
-
 /// What a sigaction takes, by what is done about the signal.
 fn action_words(action: Option<Word<'_>>) -> &'static str {
-    let Some(word) = action else {
-        return "V default|ignore|catch";
-    };
-    match word.bytes {
-        b"catch" => "V catch POINT SET",
+    match action {
+        Some(word) if word.bytes == b"catch".as_slice() => "V catch POINT SET",
         _ => "V default|ignore|catch",
     }
 }
 
 /// What a jump takes, by when it is made.
 fn jump_words(when: Option<Word<'_>>) -> &'static str {
-    let Some(word) = when else {
-        return "POINT always|if";
-    };
-    match word.bytes {
-        b"if" => "POINT if V",
-        b"always" => "POINT always",
+    match when {
+        Some(word) if word.bytes == b"if".as_slice() => "POINT if V",
+        Some(word) if word.bytes == b"always".as_slice() => "POINT always",
         _ => "POINT always|if",
     }
 }
 
 /// What is wrong with the words behind the name at that place, by the words of a form.
-pub fn arguments_trouble<'a>(
+fn arguments_trouble<'a>(
     kind: TextKind,
     words: &'static str,
     line: &'a [u8],
     place: usize,
-) -> Option<Trouble<'a>>
-    ensures column { IfSome result (λ trouble. IsColumn line.now trouble.column) }
-    ensures kind { IfSome result (λ trouble. kind_of_what trouble.what ≡ OfGrammar) }
-{
+) -> Option<Trouble<'a>> {
     let mut at = place.saturating_add(1);
     for field_place in 0..count_of(words) {
         let field = word_at(words.as_bytes(), field_place)?;

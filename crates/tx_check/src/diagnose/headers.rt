@@ -1,8 +1,4 @@
 //! What is wrong with the first line of a text.
-ghost use Rattle.std.specs.Prelude.{◌≡◌, ◌⊎◌, IfSome};
-ghost use Rattle.tx_check.specs.Speaking.{kind_of_what, OfGrammar};
-ghost use Rattle.tx_check.specs.Told.{IsColumn};
-
 use crate::diagnose::numbers::no_number;
 use crate::trouble::{LineTrouble, Trouble, WordTrouble};
 use crate::words::{Word, count_words, word_at};
@@ -10,10 +6,7 @@ use tx_base::{PROCESSES, Pid, WIDE_PROCESSES};
 use tx_lines::{TextKind, read_pid};
 
 /// What is wrong with the words of the first line of such a text.
-pub fn header_trouble<'a>(kind: TextKind, line: &'a [u8]) -> Option<Trouble<'a>>
-    ensures column { IfSome result (λ trouble. IsColumn line.now trouble.column) }
-    ensures kind { IfSome result (λ trouble. kind_of_what trouble.what ≡ OfGrammar) }
-{
+pub fn header_trouble<'a>(kind: TextKind, line: &'a [u8]) -> Option<Trouble<'a>> {
     let first = word_at(line, 0)?;
     if first.bytes != b"txos".as_slice() || count_words(line) != 4 {
         return Some(Trouble::of_line(1, LineTrouble::NoHeader));
@@ -34,11 +27,7 @@ pub fn count_trouble<'a>(
     most: u16,
     text_kind: Word<'a>,
     count: Word<'a>,
-) -> Option<Trouble<'a>>
-    ensures column { IfSome result (λ trouble.
-        (trouble.column ≡ text_kind.entry.column) ⊎ (trouble.column ≡ count.entry.column)) }
-    ensures kind { IfSome result (λ trouble. kind_of_what trouble.what ≡ OfGrammar) }
-{
+) -> Option<Trouble<'a>> {
     let name = match kind {
         TextKind::Schedule => b"schedule".as_slice(),
         TextKind::Program => b"program".as_slice(),

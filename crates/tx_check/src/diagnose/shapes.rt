@@ -1,19 +1,12 @@
 //! What is wrong with a line before its words are looked at.
-ghost use Rattle.std.specs.Prelude.{◌≡◌, IfSome};
-ghost use Rattle.tx_check.specs.Speaking.{kind_of_what, OfGrammar};
-ghost use Rattle.tx_check.specs.Told.{IsColumn};
-
 use crate::trouble::{LineTrouble, Trouble, What};
 use crate::words::odd_space;
 
 /// What some editors put before a text.
-const BYTE_ORDER_MARK: [u8; 3] = [0xef, 0xbb, 0xbf];
+pub const BYTE_ORDER_MARK: [u8; 3] = [0xef, 0xbb, 0xbf];
 
 /// What is wrong with the bytes of a line, or with the spaces between its words.
-pub fn shape_trouble(line: &[u8]) -> Option<Trouble<'static>>
-    ensures column { IfSome result (λ trouble. IsColumn line.now trouble.column) }
-    ensures kind { IfSome result (λ trouble. kind_of_what trouble.what ≡ OfGrammar) }
-{
+pub fn shape_trouble(line: &[u8]) -> Option<Trouble<'static>> {
     if line.is_empty() {
         return Some(Trouble::of_line(1, LineTrouble::Empty));
     }
@@ -37,10 +30,7 @@ pub fn shape_trouble(line: &[u8]) -> Option<Trouble<'static>>
 }
 
 /// The first byte of a line that is neither a space nor a character of ASCII.
-fn odd_byte(line: &[u8]) -> Option<Trouble<'static>>
-    ensures column { IfSome result (λ trouble. IsColumn line.now trouble.column) }
-    ensures kind { IfSome result (λ trouble. kind_of_what trouble.what ≡ OfGrammar) }
-{
+fn odd_byte(line: &[u8]) -> Option<Trouble<'static>> {
     for at in 0..line.len() {
         let byte = line[at];
         if byte != b' ' && !byte.is_ascii_graphic() {

@@ -1,10 +1,6 @@
 //! What is wrong with a step of a schedule.
-ghost use Rattle.std.specs.Prelude.{◌≡◌, IfSome};
-ghost use Rattle.tx_check.specs.Speaking.{kind_of_what, OfGrammar};
-ghost use Rattle.tx_check.specs.Told.{IsColumn};
-
 use crate::diagnose::alone::call_alone;
-use crate::diagnose::calls::{arguments_trouble, call_trouble, takes};
+use crate::diagnose::calls::{call_trouble, form_trouble};
 use crate::diagnose::numbers::no_number;
 use crate::forms::{COMMANDS, Form, SESSION, form_of};
 use crate::trouble::{LineTrouble, Trouble, WordTrouble};
@@ -18,13 +14,10 @@ const KERNEL: Form = Form {
 };
 
 /// What is wrong with the words of a line that is to be a step.
-pub fn step_trouble<'a>(version: Version, line: &'a [u8]) -> Option<Trouble<'a>>
-    ensures column { IfSome result (λ trouble. IsColumn line.now trouble.column) }
-    ensures kind { IfSome result (λ trouble. kind_of_what trouble.what ≡ OfGrammar) }
-{
+pub fn step_trouble<'a>(version: Version, line: &'a [u8]) -> Option<Trouble<'a>> {
     let first = word_at(line, 0)?;
     if first.bytes == b"kernel".as_slice() {
-        return kernel_trouble(first, line);
+        return form_trouble(TextKind::Schedule, KERNEL, first, line);
     }
     if read_pid(first.bytes).is_none() {
         return Some(no_process(first, version, line));
@@ -35,24 +28,8 @@ pub fn step_trouble<'a>(version: Version, line: &'a [u8]) -> Option<Trouble<'a>>
     call_trouble(TextKind::Schedule, version, line, 1)
 }
 
-/// What is wrong with a step of the kernel.
-fn kernel_trouble<'a>(first: Word<'a>, line: &'a [u8]) -> Option<Trouble<'a>>
-    requires { IsColumn line.now first.column }
-    ensures column { IfSome result (λ trouble. IsColumn line.now trouble.column) }
-    ensures kind { IfSome result (λ trouble. kind_of_what trouble.what ≡ OfGrammar) }
-{
-    let behind = count_words(line) - 1;
-    if behind != 1 {
-        return Some(takes(first, KERNEL, behind));
-    }
-    arguments_trouble(TextKind::Schedule, "P", line, 0)
-}
-
 /// What is wrong with a first word that is no process: what it would be elsewhere, or the number.
-fn no_process<'a>(first: Word<'a>, version: Version, line: &'a [u8]) -> Trouble<'a>
-    ensures column { result.column ≡ first.entry.column }
-    ensures kind { kind_of_what result.what ≡ OfGrammar }
-{
+fn no_process<'a>(first: Word<'a>, version: Version, line: &'a [u8]) -> Trouble<'a> {
     if first.bytes == b"label".as_slice() {
         return Trouble::of_line(first.column, LineTrouble::LabelInSchedule);
     }

@@ -1,7 +1,4 @@
 //! What is wrong with a line of a session that begins as a header does.
-ghost use Rattle.std.specs.Prelude.{IfSome};
-ghost use Rattle.tx_check.specs.Told.{IsColumn};
-
 use crate::diagnose::headers::count_trouble;
 use crate::trouble::{LineTrouble, Trouble, WordTrouble};
 use crate::words::{count_words, word_at};
@@ -9,9 +6,7 @@ use tx_base::{PROCESSES, WIDE_PROCESSES};
 use tx_lines::TextKind;
 
 /// What is wrong with a line that begins with `txos`. A header that can be may come no more.
-pub fn head_trouble<'a>(line: &'a [u8]) -> Trouble<'a>
-    ensures { IsColumn line.now result.column }
-{
+pub fn head_trouble<'a>(line: &'a [u8]) -> Trouble<'a> {
     match words_trouble(line) {
         Some(trouble) => trouble,
         None => Trouble::of_line(1, LineTrouble::HeaderLate),
@@ -19,9 +14,7 @@ pub fn head_trouble<'a>(line: &'a [u8]) -> Trouble<'a>
 }
 
 /// What is wrong with the words of such a line. Nothing where they are a header's.
-fn words_trouble<'a>(line: &'a [u8]) -> Option<Trouble<'a>>
-    ensures { IfSome result (λ trouble. IsColumn line.now trouble.column) }
-{
+fn words_trouble<'a>(line: &'a [u8]) -> Option<Trouble<'a>> {
     if count_words(line) != 4 {
         return Some(Trouble::of_line(1, LineTrouble::NoSessionHeader));
     }

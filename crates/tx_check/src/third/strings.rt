@@ -1,10 +1,6 @@
 //! What is wrong with a string that means no bytes, and so stands in the line of version 2 as it is.
-ghost use Rattle.std.specs.Prelude.{◌≡◌, IfSome};
-ghost use Rattle.tx_check.specs.Speaking.{kind_of_what, OfGrammar};
-ghost use Rattle.tx_check.specs.Told.{IsColumn};
-
 use crate::own::own_word;
-use crate::trouble::{ThirdTrouble, Trouble, What};
+use crate::trouble::{Trouble, What, WordTrouble};
 use crate::words::{Word, count_words, word_at};
 use tx_lines::LINE_BYTES;
 
@@ -18,31 +14,22 @@ pub fn string_trouble<'a>(
     own: &'a [u8],
     column: usize,
     what: &What<'_>,
-) -> Option<Trouble<'a>>
-    ensures column { IfSome result (λ trouble. IsColumn own.now trouble.column) }
-    ensures kind { IfSome result (λ trouble. kind_of_what trouble.what ≡ OfGrammar) }
-    ensures other { IfSome result (λ trouble. kind_of_what what.now ≡ OfGrammar) }
-{
-    if line.len() > LINE_BYTES || !what.is_of_grammar() {
+) -> Option<Trouble<'a>> {
+    if line.len() > LINE_BYTES {
         return None;
     }
     let string = string_left(line, own)?;
     match what {
-        What::Takes { .. } => {}
+        What::Word(_word, WordTrouble::Takes(..)) => {}
         _ if column < string.column => return None,
         _ => {}
     }
-    Some(Trouble {
-        column: string.column,
-        what: What::Third(string.bytes, wrong_in(string.bytes)),
-    })
+    Some(Trouble::of_word(string, wrong_in(string.bytes)))
 }
 
 /// The first string of an own line that stands in the line of version 2 as it is. No word before it
 /// has a space, so that the places of both are the same.
-fn string_left<'a>(line: &[u8], own: &'a [u8]) -> Option<Word<'a>>
-    ensures { IfSome result (λ word. IsColumn own.now word.column) }
-{
+fn string_left<'a>(line: &[u8], own: &'a [u8]) -> Option<Word<'a>> {
     for place in 0..count_words(line) {
         let string = own_word(own, place)?;
         let word = word_at(line, place)?;
@@ -54,13 +41,13 @@ fn string_left<'a>(line: &[u8], own: &'a [u8]) -> Option<Word<'a>>
 }
 
 /// What is wrong with a string. `NoStore` where it means bytes, and stands in a wrong place.
-fn wrong_in(string: &[u8]) -> ThirdTrouble {
+fn wrong_in(string: &[u8]) -> WordTrouble<'static> {
     let mut is_escaped = false;
     let mut count: usize = 0;
     for at in 1..string.len() {
         let byte = string[at];
         if is_escaped && !b"nt0\"\\".contains(&byte) {
-            return ThirdTrouble::NoEscape;
+            return WordTrouble::NoEscape;
         }
         if !is_escaped && byte == b'"' {
             return wrong_at_end(count, &string[at + 1..]);
@@ -70,16 +57,16 @@ fn wrong_in(string: &[u8]) -> ThirdTrouble {
             count = count.saturating_add(1);
         }
     }
-    ThirdTrouble::OpenString
+    WordTrouble::OpenString
 }
 
 /// What is wrong with a string of so many bytes, and with what follows it.
-fn wrong_at_end(count: usize, behind: &[u8]) -> ThirdTrouble {
+fn wrong_at_end(count: usize, behind: &[u8]) -> WordTrouble<'static> {
     if !behind.is_empty() {
-        return ThirdTrouble::BehindString;
+        return WordTrouble::BehindString;
     }
     if count == 0 || count > BYTES {
-        return ThirdTrouble::StringSize;
+        return WordTrouble::StringSize;
     }
-    ThirdTrouble::NoStore
+    WordTrouble::NoStore
 }

@@ -1,9 +1,9 @@
 use Rattle.std.proofs.Common.{◌≡◌, ◌≤◌, ◌+◌, ℕ, List, string_bytes}
 use Rattle.tx_check.proofs.ToldBehind.{AreAlike, IsToldTo}
+use Rattle.tx_check.specs.Told.{Grows}
 use Rattle.tx_check.specs.Numbered.{after_lines}
 use Rattle.tx_check.specs.OwnLines.{IsFrom}
 use Rattle.tx_check.specs.Stands.{StandsAt}
-use Rattle.tx_check.specs.ToldKinds.{Grows}
 use Rattle.tx_plain.specs.Meant.{meant_of, own_line}
 use Rattle.tx_plain.specs.MeantLines.{left_of, OwnsFrom}
 use Rattle.tx_check.proofs.checks.tell_behind.Given as goal

@@ -1,14 +1,12 @@
 use Rattle.std.proofs.Common.{◌≡◌, ◌+◌, ◌-◌, ◌<◌, ◌≤◌, ◌^◌, ◌∙◌, ℕ, List, ap, arith, length, refl, string_bytes, subst, sym}
 use Rattle.tx_check.proofs.KindsFound.{ended_in, kind_found}
-use Rattle.tx_check.proofs.MeantLong.{meant_long}
-use Rattle.tx_check.proofs.OwnLong.{own_long}
+use Rattle.tx_check.proofs.OwnLong.{meant_long, own_long}
 use Rattle.tx_check.proofs.ToldFirst.{begins, long_kind, told_so}
 use Rattle.tx_check.specs.Numbered.{after_lines, behind, line_at}
 use Rattle.tx_check.specs.Speaking.{kind_of_what}
-use Rattle.tx_check.specs.ToldKinds.{kind_of_fault}
 use Rattle.tx_check.specs.OwnLines.{IsWrongAfter, TellsBehind}
 use Rattle.tx_check.specs.Reads.{line_of, IsAtFault}
-use Rattle.tx_check.specs.Told.{TellsFrom}
+use Rattle.tx_check.specs.Told.{kind_of_fault, TellsFrom}
 use Rattle.tx_check.specs.Wrong.{IsWrongBehind}
 use Rattle.tx_check.proofs.Appended.{fewer, first_told}
 use Rattle.tx_check.proofs.LeftOut.{wrong_after}

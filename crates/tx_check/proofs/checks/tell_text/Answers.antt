@@ -5,8 +5,7 @@ use Rattle.tx_check.proofs.OwnLines.{fault_told, own_some, told_fewer, wrong_too
 use Rattle.tx_check.proofs.ToldOf.{are_one, told_right}
 use Rattle.tx_check.specs.Kinds.{kind_of}
 use Rattle.tx_check.specs.Reads.{line_of, IsAtFault, IsRead}
-use Rattle.tx_check.specs.Told.{IsMeantFault}
-use Rattle.tx_check.specs.ToldKinds.{kind_of_fault, BeginsOfKind}
+use Rattle.tx_check.specs.Told.{kind_of_fault, BeginsOfKind, IsMeantFault}
 use Rattle.tx_check.specs.Wrong.{IsWrongBehind, IsWrongToo}
 use Rattle.tx_check.specs.declared.kinds.Kind.{Kind}
 use Rattle.tx_lines.specs.declared.faults.Fault.{Fault}

@@ -29,7 +29,7 @@ loop-own-init c =
 pub returns-in-Some-fault_at-clause-finds : goal.returns-in-Some-fault_at-clause-finds
 returns-in-Some-fault_at-clause-finds c =
     let next = c.in-Some.ensures in
-    so_far_fault c.args.kind c.args.header.version (left_of c.args.text.now.text) (left_of c.args.rest) c.args.header c.loop-own.number c.loop-own.place (left_of c.loop-own.left)
+    so_far_fault c.args.kind (left_of c.args.text.now.text) (left_of c.args.rest) c.args.header c.loop-own.number c.loop-own.place (left_of c.loop-own.left)
     (record { number = c.loop-own.number; bytes = c.meaning.result; is_ended = c.in-Some.own.is_ended }) c.in-Some-fault_at.fault c.requires.header c.loop-own.invariant.so
     (record {
       of = c.loop-own.invariant.version;
@@ -77,5 +77,5 @@ loop-own-preserved c =
     }
 
 pub returns-clause-finds : goal.returns-clause-finds
-returns-clause-finds c = so_far_all c.args.kind c.args.header.version (left_of c.args.rest) c.loop-own.number c.loop-own.place (left_of c.loop-own.left)
-    c.in_default.ensures.none c.loop-own.invariant.so
+returns-clause-finds c = so_far_all c.args.kind (left_of c.args.text.now.text) c.args.header (left_of c.args.rest) c.loop-own.number c.loop-own.place (left_of c.loop-own.left)
+    c.requires.header c.in_default.ensures.none c.loop-own.invariant.so

@@ -21,7 +21,7 @@ returns-then-is_unlinked-clause-finds c =
     let version = c.args.header.version in
     let so = c.loop-line.invariant in
     let next = next_line version (left_of c.args.rest) c.loop-line.number (left_of c.loop-line.left) so c.in-Some.ensures.some in
-    linked_fault version (left_of c.args.text.now.text) (left_of c.args.rest) c.args.header c.loop-line.number (left_of c.loop-line.left) so next c.requires.header
+    linked_fault (left_of c.args.text.now.text) (left_of c.args.rest) c.args.header c.loop-line.number (left_of c.loop-line.left) so next c.requires.header
     ((c.if-is_unlinked.ensures next.one next.good (c.meaning.ensures ∙ c.in-Some.ensures.line.bytes ∙ next.first)).0 refl)
 
 pub overflow_add-number : goal.overflow_add-number
@@ -41,4 +41,4 @@ loop-line-preserved c =
 
 pub returns-clause-finds : goal.returns-clause-finds
 returns-clause-finds c =
-    linked_all c.args.header.version (left_of c.args.rest) c.loop-line.number (left_of c.loop-line.left) c.in_default.ensures.none c.loop-line.invariant
+    linked_all (left_of c.args.text.now.text) c.args.header (left_of c.args.rest) c.loop-line.number (left_of c.loop-line.left) c.requires.header c.in_default.ensures.none c.loop-line.invariant

@@ -1,6 +1,6 @@
 use Rattle.std.proofs.Common.{◌≡◌, ◌∙◌, ℕ, List, suc, ap, option_map, subst, sym}
 use Rattle.tx_check.proofs.NearNames.{names_more}
-use Rattle.tx_check.specs.Near.{label_names, near_label, with_name, FindsNear}
+use Rattle.tx_check.specs.Near.{label_names, near, with_name, FindsNear}
 use Rattle.tx_check.specs.Numbered.{after_lines, behind}
 use Rattle.tx_lines.specs.Schedule.{first_line}
 use Rattle.tx_plain.specs.MeantLines.{left_of, line_of}
@@ -16,6 +16,11 @@ loop-line-preserved c =
     let more : with_name (line_of c.in-Some.line) names ≡ label_names (suc so.count) text = ap (λ (l : List ℕ). with_name l names) here ∙ sym (names_more so.count text) in
     record {
       count = suc so.count;
-      found = subst (λ (n : List (List ℕ)). FindsNear c.args.word.now n 5 (option_map near_label c.in_ok-nearest.nearest)) more (c.in_ok-nearest.ensures names so.found);
+      found = subst (λ (n : List (List ℕ)). FindsNear c.args.word.now n 5 (option_map near c.in_ok-nearest.nearest)) more (c.in_ok-nearest.ensures names so.found);
       behind = next.behind ∙ ap behind so.behind;
     }
+
+pub returns : goal.returns
+returns c =
+    let so = c.loop-line.invariant in
+    record { count = so.count; all = sym so.behind ∙ c.in_default.ensures.none; found = c.named.ensures c.args.word.now (label_names so.count (left_of c.args.text)) so.found }

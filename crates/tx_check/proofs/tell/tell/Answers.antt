@@ -1,7 +1,7 @@
 use Rattle.std.proofs.Common.{List, ℕ, string_bytes, subst, sym}
 use Rattle.tx_check.proofs.Spoken.{speaks}
+use Rattle.tx_check.specs.Told.{TellsOfKind}
 use Rattle.tx_check.specs.Speaking.{kind_of_what, FaultKind, IsOfKind, SpeaksAt}
-use Rattle.tx_check.specs.ToldKinds.{TellsOfKind}
 use Rattle.tx_check.proofs.tell.tell.Goals as goal
 
 pub put_told-requires-clause-speaks : goal.put_told-requires-clause-speaks
