@@ -11,7 +11,7 @@ use Rattle.json.specs.Token.{Token}
 use Rattle.tx_base.specs.Errors.{error_number}
 use Rattle.tx_base.specs.declared.names.Missed.{Missed}
 use Rattle.tx_base.specs.declared.steps.Refusal.{Refusal}
-use Rattle.tx_base.specs.declared.steps.Refusal.TheVariants.{NoProcess, NotRunning, BadNumber, NumberTaken, Doomed, Parked, KillPending, Busy, Wait, NotDeliverable, FramesFull, NoTransaction, NoMemory, Deferred}
+use Rattle.tx_base.specs.declared.steps.Refusal.TheVariants.{Busy}
 use Rattle.tx_base.specs.declared.steps.Reply.{Reply}
 use Rattle.tx_base.specs.declared.steps.Reply.TheVariants.{Done, Ended, Committed, Aborted, Out, No}
 use Rattle.tx_json.specs.Answers.{entry_answer, step_answer}
@@ -51,7 +51,7 @@ missed_printable missed typed =
 refusal_printable : (refusal : Refusal) → IsTypedRefusal refusal → ArePrintable (refusal_members refusal ++ end_object)
 unfolding ArePrintable count_member end_object word_member
 refusal_printable (Busy starter) typed = (tt, (tt, (tt, (IsNumber-decimal starter.0 (omega (arith, typed)), (tt, tt)))))
-refusal_printable _ typed = (tt, (tt, (tt, tt)))
+refusal_printable refusal typed = (tt, (tt, (tt, tt)))
 
 undelivered_printable : (items : List Missed) → All IsTypedMissed items → ArePrintable (list_member (codes "undelivered") (each_tokens missed_tokens items) ++ end_object)
 unfolding ArePrintable end_object

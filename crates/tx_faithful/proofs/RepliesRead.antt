@@ -4,10 +4,10 @@ use Rattle.std.specs.List.{All}
 use Rattle.json.specs.Token.{Token}
 use Rattle.tx_base.specs.Errors.{error_number}
 use Rattle.tx_base.specs.declared.errors.Errno.{Errno}
-use Rattle.tx_base.specs.declared.errors.Errno.TheVariants.{NotPermitted, NoSuchProcess, BadDescriptor, NoChild, TryAgain, BadAddress, InvalidArgument, TooManyDescriptors, BrokenPipe}
+use Rattle.tx_base.specs.declared.errors.Errno.TheVariants.{NotPermitted}
 use Rattle.tx_base.specs.declared.names.Missed.{Missed}
 use Rattle.tx_base.specs.declared.steps.Refusal.{Refusal}
-use Rattle.tx_base.specs.declared.steps.Refusal.TheVariants.{NoProcess, NotRunning, BadNumber, NumberTaken, Doomed, Parked, KillPending, Busy, Wait, NotDeliverable, FramesFull, NoTransaction, NoMemory, Deferred}
+use Rattle.tx_base.specs.declared.steps.Refusal.TheVariants.{Busy}
 use Rattle.tx_base.specs.declared.steps.Reply.{Reply}
 use Rattle.tx_base.specs.declared.steps.Reply.TheVariants.{Done, Ended, Committed, Aborted, Out, No}
 use Rattle.tx_json.specs.Answers.{step_answer}
@@ -26,7 +26,7 @@ small_error errno = grind arith
 
 error_read : (errno : Errno) → numbered_by errors (error_number errno) ≡ Some errno
 error_read NotPermitted = refl
-error_read _ = refl
+error_read errno = refl
 
 missed_read : (missed : Missed) (rest : List Token) → IsTypedMissed missed → missed_at (missed_tokens missed ++ rest) ≡ Some (missed, rest)
 unfolding begin_object count_at count_in count_member end_object missed_members object_by
@@ -51,7 +51,7 @@ undelivered_read = list_read missed_at missed_tokens IsTypedMissed missed_item (
 refusal_read : (refusal : Refusal) (rest : List Token) → IsTypedRefusal refusal → refusal_in (refusal_members refusal ++ rest) ≡ Some (No refusal, rest)
 unfolding count_at count_in count_member refusal_in word_in word_member
 refusal_read (Busy starter) rest typed = rw (count_read starter.0 (omega (arith, typed))) refl
-refusal_read _ rest typed = refl
+refusal_read refusal rest typed = refl
 
 refused_reply : (refusal : Refusal) (rest : List Token) → IsTypedRefusal refusal → reply_in (refusal_members refusal ++ rest) ≡ Some (No refusal, rest)
 unfolding reply_in
