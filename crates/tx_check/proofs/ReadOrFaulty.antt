@@ -1,5 +1,5 @@
 -- A text of a kind is read, or has one fault, and never both.
-use Rattle.std.proofs.Common.{◌≡◌, ◌∙◌, ◌⊎◌, ℕ, List, [], ◌∷◌, ◌++◌, map, refl, ap, sym, subst, inl, inr, append-nil}
+use Rattle.std.proofs.Common.{◌≡◌, ◌∙◌, ℕ, List, [], ◌∷◌, ◌++◌, map, refl, ap, sym, subst, inl, inr, append-nil}
 use Rattle.tx_check.proofs.EndedLines.{spelled_lines, with_ends}
 use Rattle.tx_check.proofs.NextLines.{header_once, header_right}
 use Rattle.tx_check.proofs.OneFault.{never_both, one_fault}

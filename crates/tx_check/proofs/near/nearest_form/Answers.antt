@@ -1,4 +1,4 @@
-use Rattle.std.proofs.Common.{◌≡◌, ◌∙◌, ◌++◌, ◌∷◌, [], List, ℕ, append_assoc, ap, arith, map, option_map, subst, sym, take}
+use Rattle.std.proofs.Common.{◌∙◌, ◌++◌, ◌∷◌, [], List, ℕ, append_assoc, ap, arith, map, option_map, subst, sym, take}
 use Rattle.std.proofs.lemmas.List.{take_all}
 use Rattle.tx_check.proofs.NearNames.{one_more}
 use Rattle.tx_check.specs.Near.{near, FindsNear}

@@ -1,4 +1,4 @@
-use Rattle.std.proofs.Common.{◌≡◌, ◌∙◌, ◌++◌, List, ℕ, ap, codes, subst, sym}
+use Rattle.std.proofs.Common.{◌∙◌, ◌++◌, List, ℕ, ap, codes, subst, sym}
 use Rattle.std.specs.Fmt.{decimal}
 use Rattle.tx_check.proofs.Spoken.{speaks}
 use Rattle.tx_check.specs.Speaking.{SpeaksAt}
