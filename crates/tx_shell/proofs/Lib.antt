@@ -1,6 +1,4 @@
-pub mod Begun
 pub mod Behind
-pub mod Chained
 pub mod Consoles
 pub mod CutLines
 pub mod FirstWords
@@ -13,8 +11,6 @@ pub mod Numbered
 pub mod OwnSteps
 pub mod Owned
 pub mod Replayed
-pub mod Results
-pub mod Shown
 pub mod Sought
 pub mod Spelled
 pub mod Talked

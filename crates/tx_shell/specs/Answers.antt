@@ -1,9 +1,10 @@
--- What a line is answered, and where the session stands then.
+-- What a line is answered, and where the session stands then, also where memory was refused.
 use Rattle.std.specs.Prelude.{◌≡◌, ◌≢◌, ◌⊎◌, ◌<◌, ℕ, ◌&&◌, Bool, List, ◌∷◌, Option, None, Some, IsTrue, if◌then◌else◌, length, nat_eq, option_map, string_bytes}
 use Rattle.tx_base.specs.declared.steps.Accepted.{Accepted}
 use Rattle.tx_base.specs.declared.steps.Reply.{Reply}
 use Rattle.tx_base.specs.declared.steps.Step.{Step}
 use Rattle.tx_explain.specs.Topics.{is_page}
+use Rattle.tx_journal.specs.Sessions.{IsBetween}
 use Rattle.tx_journal.specs.Trials.{view_with}
 use Rattle.tx_lines.specs.Lines.{FitsStep, IsOf, step_text}
 use Rattle.tx_lines.specs.Schedule.{IsNoStep}
@@ -139,3 +140,20 @@ AnswersWords form o p before line words text q after =
     ((step : Step) × IsStepLine o words step × AnswersStep form (start_in o) p step text q × (after ≡ refused_by p step q before))
     ⊎ (((ask : Ask) × IsAskLine o words ask × AnswersAskIn form o p before ask text q × (after ≡ before))
     ⊎ (AnswersNeither form o p line words text q × (after ≡ before)))
+
+-- the position to which what is asked for leads at the furthest
+abbrev pub position_asked : Place → Ask → ℕ
+position_asked p (asks.Walk command) = position_after p.history p.at command
+position_asked p asks.GotoEnd = position_after p.history p.at (commands.Goto (length p.history))
+position_asked p (asks.When piece) = 0
+position_asked p (asks.Next piece) = length p.history
+position_asked p ask = p.at
+
+-- no step came or went, and the position is between the old one and that one
+pub record StopsShort (p : Place) (ask : Ask) (q : Place) : Type 0 where
+  pub history : q.history ≡ p.history
+  pub between : IsBetween p.at q.at (position_asked p ask)
+
+-- nothing changed, but the position at most, where the line asks for another one
+abbrev pub StopsShortOf : Origin → Place → List ℕ → Place → Type 0
+StopsShortOf o p words q = (q ≡ p) ⊎ ((ask : Ask) × IsAskLine o words ask × StopsShort p ask q)

@@ -2,7 +2,6 @@
 use Rattle.std.specs.Prelude.{◌≡◌, ◌≢◌, ◌≤◌, ◌+◌, ◌-◌, ℕ, List, [], ◌∷◌, ◌++◌, MatchOption, Option, Some, codes, length, reverse, slice_get, string_bytes}
 use Rattle.std.specs.Fmt.{decimal}
 use Rattle.tx_base.specs.declared.steps.Accepted.{Accepted}
-use Rattle.tx_base.specs.declared.steps.Step.{Step}
 use Rattle.tx_journal.specs.Entries.{history_of}
 use Rattle.tx_journal.specs.Pieces.{piece_text}
 use Rattle.tx_journal.specs.Sessions.{SessionState, start_of}
@@ -47,14 +46,6 @@ pub record MeetsNext (shown : ℕ → List ℕ) (lines others : List ℕ) (from 
   pub same : AllShow shown lines from (at - 1)
   pub there : ShowsOthers shown lines others at
 
--- the line of a step that changed them, which has that number
-abbrev pub change_line : ℕ → Step → List ℕ
-change_line number step = codes "at " ++ (decimal number ++ (codes ": " ++ (step_text step ++ 10 ∷ [])))
-
--- the line of a position where no step is told
-abbrev pub no_change_text : ℕ → List ℕ
-no_change_text at = codes "at " ++ (decimal at ++ codes ": no change\n")
-
 -- the step of that number changed them, from the lines of the one side to those of the other
 pub record IsChange (shown : ℕ → List ℕ) (number : ℕ) (change : Change) : Type 0 where
   pub before : string_bytes change.before ≡ shown (number - 1)
@@ -88,9 +79,9 @@ pub record FindsNext (shown : ℕ → List ℕ) (p : Place) (found : Option Chan
 pub record TellsStep (history : List Accepted) (number : ℕ) (before after text : List ℕ) : Type 0 where
   pub entry : Accepted
   pub made : slice_get (reverse history) (number - 1) ≡ Some entry
-  pub told : text ≡ change_line number entry.step ++ differing before after
+  pub told : text ≡ codes "at " ++ (decimal number ++ (codes ": " ++ (step_text entry.step ++ 10 ∷ differing before after)))
 
 -- what was found is told: the step directly before the position, or that there is none
 abbrev pub TellsFound : List Accepted → ℕ → Option Change → List ℕ → Type 0
 TellsFound history at found text =
-    MatchOption found (text ≡ no_change_text at) (λ change. TellsStep history at (string_bytes change.before) (string_bytes change.after) text)
+    MatchOption found (text ≡ codes "at " ++ (decimal at ++ codes ": no change\n")) (λ change. TellsStep history at (string_bytes change.before) (string_bytes change.after) text)

@@ -1,18 +1,19 @@
 -- How each form prints answers.
-use Rattle.std.specs.Prelude.{◌≡◌, ℕ, List, [], ◌∷◌, ◌++◌, ◌≤◌, IfSome, Option, None, Some, codes, option_map, string_bytes}
+use Rattle.std.specs.Prelude.{◌≡◌, ℕ, List, [], ◌∷◌, ◌++◌, ◌≤◌, IfSome, Option, None, Some, codes, string_bytes}
 use Rattle.json.specs.Token.{Token}
 use Rattle.tx_base.specs.declared.steps.Accepted.{Accepted}
 use Rattle.tx_base.specs.declared.steps.Reply.{Reply}
 use Rattle.tx_check.specs.Sessions.{IsSessionTold}
 use Rattle.tx_json.specs.Answers.{empty_answer, error_answer, position_answer, step_answer, lines_with, state_answer, trial_answer}
 use Rattle.tx_json.specs.Line.{IsLineOf}
+use Rattle.tx_json.specs.Members.{count_member, null_member}
 use Rattle.tx_model.specs.Schedules.{history_of}
 use Rattle.tx_model.specs.State.{State}
 use Rattle.tx_model.specs.View.{view}
 use Rattle.tx_script.specs.Debug.{position_text, first_steps}
 use Rattle.tx_shell.specs.Changes.{TellsFound}
 use Rattle.tx_shell.specs.Journals.{schedule_so_far, steps_listed, steps_made}
-use Rattle.tx_shell.specs.Members.{change_member, owner_member, owners_member, steps_member, transaction_member, why_members}
+use Rattle.tx_shell.specs.Members.{change_member, owner_member, owners_member, steps_member, why_members}
 use Rattle.tx_shell.specs.Origins.{Origin, start_in}
 use Rattle.tx_shell.specs.Owners.{or_no_transaction, owner_line, owner_lines}
 use Rattle.tx_shell.specs.Places.{Place}
@@ -65,11 +66,6 @@ pub record PrintsSchedule (o : Origin) (p : Place) (text : List ℕ) : Type 0 wh
   pub told : text ≡ schedule_so_far o p
   pub leads : history_of (start_in o) [] (steps_made p) ≡ first_steps p.at p.history
 
--- the lines by which a state would differ without a transaction, or that there is none
-abbrev pub without_text : Option (List ℕ) → List ℕ
-without_text None = codes "no transaction\n"
-without_text (Some lines) = lines
-
 -- an answer as text, at a place up to which the steps of the history h are made
 abbrev pub TellsAnswer : Origin → List Accepted → Place → Answer → List ℕ → Type 0
 TellsAnswer o h p (answers.Walked lines) text = text ≡ string_bytes lines
@@ -78,7 +74,8 @@ TellsAnswer o h p answers.Position text = text ≡ position_text p.at
 TellsAnswer o h p (answers.Steps first last) text = text ≡ steps_listed p first last
 TellsAnswer o h p answers.Schedule text = PrintsSchedule o p text
 TellsAnswer o h p (answers.Trial reply differences) text = text ≡ named_reply_text reply ++ 10 ∷ string_bytes differences
-TellsAnswer o h p (answers.Without starter differences) text = text ≡ without_text (option_map string_bytes differences)
+TellsAnswer o h p (answers.Without starter None) text = text ≡ codes "no transaction\n"
+TellsAnswer o h p (answers.Without starter (Some differences)) text = text ≡ string_bytes differences
 TellsAnswer o h p (answers.Change found) text = TellsFound p.history p.at found text
 TellsAnswer o h p (answers.Why step reply) text = TellsWhy (start_in o) h step reply text
 TellsAnswer o h p answers.NothingRefused text = text ≡ codes "nothing was refused\n"
@@ -89,7 +86,8 @@ TellsAnswer o h p (answers.Page page) text = text ≡ page.now
 -- what JSON has of an answer after the lines of its text
 abbrev pub answer_members : State → List Accepted → Place → Answer → List Token
 answer_members start h p (answers.Steps first last) = steps_member p first last
-answer_members start h p (answers.Without starter differences) = transaction_member starter differences
+answer_members start h p (answers.Without starter None) = null_member (codes "transaction")
+answer_members start h p (answers.Without starter (Some differences)) = count_member (codes "transaction") starter
 answer_members start h p (answers.Change found) = change_member p found
 answer_members start h p (answers.Why step reply) = why_members start h step reply
 answer_members start h p answers.Owners = owners_member (view start h)

@@ -9,7 +9,6 @@ use Rattle.tx_base.specs.declared.steps.Step.{Step}
 use Rattle.tx_base.specs.declared.steps.Step.TheVariants as steps
 use Rattle.tx_base.specs.declared.steps.Call.TheVariants as calls
 use Rattle.tx_json.specs.declared.holders.Holder.{Holder}
-use Rattle.tx_model.specs.Answer.{answer}
 use Rattle.tx_model.specs.Book.{is_read_side, is_write_side}
 use Rattle.tx_model.specs.Descriptors.{is_side}
 use Rattle.tx_model.specs.Footprints.{footprint}
@@ -57,13 +56,9 @@ other_side (steps.Call p (calls.Write fd address count)) = Some ReadSide
 other_side step = None
 
 module _ (V : View) (step : Step) where
-  -- the step names pipe k
-  abbrev pub names_pipe : ℕ → Bool
-  names_pipe k = has_object (object_in Pipes k) (footprint V.table step (present V))
-
-  -- who has that side of the pipe open that the step names
+  -- who has that side of pipe k open, where the step names it
   abbrev pub named_holders : Side → ℕ → List Holder
-  named_holders side k = if names_pipe k then holders (present V) side k else []
+  named_holders side k = if has_object (object_in Pipes k) (footprint V.table step (present V)) then holders (present V) side k else []
 
   abbrev pub side_holders : Side → List Holder
   side_holders side = each_below (named_holders side) (limit_of Pipes)
@@ -76,9 +71,6 @@ module _ (V : View) (step : Step) where
   abbrev pub awaited_by : Reply → Option (List Holder)
   awaited_by (No Wait) = other_holders
   awaited_by reply = None
-
-  abbrev pub awaited_holders : Option (List Holder)
-  awaited_holders = awaited_by (answer V step)
 
 -- the word for a side
 abbrev pub side_word : Side → List ℕ

@@ -11,17 +11,16 @@ use Rattle.tx_shell.specs.Origins.{header_in, Origin}
 use Rattle.tx_shell.specs.Places.{Place}
 use Rattle.tx_text.specs.Replies.{named_reply_text}
 
--- the line of a step, as the report of a run has it, with the name of an error: its number, its worker, which is 1, the step, and its reply
-abbrev pub step_line : ℕ → Accepted → List ℕ
-step_line number e = decimal number ++ (codes " w1 " ++ (step_text e.step ++ (codes " : " ++ (named_reply_text e.reply ++ 10 ∷ []))))
-
 -- the line of the position, where that one is it
 abbrev pub mark_at : ℕ → ℕ → List ℕ
 mark_at at number = if nat_eq at number then position_text at else []
 
--- the step, and the position behind it, where its number lies between those two
+-- the line of a step, as the report of a run has it, with the name of an error: its number, its worker, which is 1, the step, and its reply; and the
+-- position behind it. Both where its number lies between those two
 abbrev pub listed_between : ℕ → ℕ → ℕ → ℕ → Accepted → List ℕ
-listed_between at first last number e = if nat_le first number && nat_le number last then step_line number e ++ mark_at at number else []
+listed_between at first last number e =
+    if nat_le first number && nat_le number last
+    then decimal number ++ (codes " w1 " ++ (step_text e.step ++ (codes " : " ++ (named_reply_text e.reply ++ 10 ∷ mark_at at number)))) else []
 
 -- what is said of some things by their numbers, of which the first is that one
 abbrev pub by_number : {A B : Type 0} → (ℕ → A → List B) → ℕ → List A → List B
@@ -32,22 +31,14 @@ by_number say number (x ∷ xs) = say number x ++ by_number say (number + 1) xs
 abbrev pub mark_before : ℕ → ℕ → List ℕ
 mark_before at first = if nat_le first 1 then mark_at at 0 else []
 
--- the steps of those numbers, and the position where it is among them
-abbrev pub steps_between : Place → ℕ → ℕ → List ℕ
-steps_between p first last = mark_before p.at first ++ by_number (listed_between p.at first last) 1 (reverse p.history)
-
--- that no line has those numbers, and how many steps there are
-abbrev pub no_steps_line : ℕ → List ℕ
-no_steps_line count = codes "no such steps: there are " ++ (decimal count ++ 10 ∷ [])
-
--- some lines, or that there are none
+-- some lines, or that there are none, and how many steps there are
 abbrev pub or_no_steps : ℕ → List ℕ → List ℕ
-or_no_steps count [] = no_steps_line count
+or_no_steps count [] = codes "no such steps: there are " ++ (decimal count ++ 10 ∷ [])
 or_no_steps count (byte ∷ bytes) = byte ∷ bytes
 
--- what is answered of the steps of those numbers
+-- the steps of those numbers, and the position where it is among them, or that there are none
 abbrev pub steps_listed : Place → ℕ → ℕ → List ℕ
-steps_listed p first last = or_no_steps (length p.history) (steps_between p first last)
+steps_listed p first last = or_no_steps (length p.history) (mark_before p.at first ++ by_number (listed_between p.at first last) 1 (reverse p.history))
 
 -- the steps of some entries
 abbrev pub steps_of : List Entry → List Step

@@ -16,7 +16,5 @@ pub mod Owners
 pub mod Pieces
 pub mod Places
 pub mod Reasons
-pub mod Refused
-pub mod Signals
 pub mod Spelled
 pub mod Standings

@@ -34,14 +34,13 @@ after_word line = drop (first_or 1 (columns_in line) - 1 + length (first_word li
 abbrev pub asks_of_step : List ℕ → Bool
 asks_of_step word = bytes_eq word (codes "try") || bytes_eq word (codes "why")
 
--- what a line means whose first word asks about a step: that is a line of its own
-abbrev pub asked_step : List ℕ → List ℕ
-asked_step line = with_step (first_word line) (plain_line (Within Schedule) (without_return (after_word line)))
-
--- what a line of version 3 means among the steps of a text, and where it asks about a step; one of too many bytes means itself
+-- what a line of version 3 means among the steps of a text; where its first word asks about a step, that is a line of its own. One of too many bytes
+-- means itself
 abbrev pub third_line : List ℕ → Option (List ℕ)
 third_line line =
-    if not (nat_lt 512 (length line)) && asks_of_step (first_word line) then Some (asked_step line) else plain_line (Within Schedule) (without_return line)
+    if not (nat_lt 512 (length line)) && asks_of_step (first_word line)
+    then Some (with_step (first_word line) (plain_line (Within Schedule) (without_return (after_word line))))
+    else plain_line (Within Schedule) (without_return line)
 
 -- what a line of a version spells, before other words for the same are looked at. A byte 10 would end it
 abbrev pub spelled_line : TextVersion → List ℕ → Option (List ℕ)

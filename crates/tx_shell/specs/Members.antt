@@ -47,14 +47,12 @@ module _ (V : View) where
   abbrev pub owned_member : ℕ → Kind → List Token
   owned_member s kind = list_member (list_of kind) (upto (listed_item (owns_one V s kind)) (limit_of kind))
 
-  -- the transaction of s, and what it has reserved
-  abbrev pub owner_tokens : ℕ → List Token
-  owner_tokens s =
-      begin_object ++ (count_member (codes "starter") s ++ (owned_member s Processes ++ (owned_member s Descriptions ++ (owned_member s Pipes ++ end_object))))
-
-  -- it, where it is live
+  -- the transaction of s, where it is live, and what it has reserved
   abbrev pub owner_item : ℕ → List Token
-  owner_item s = if is_live V.table s then owner_tokens s else []
+  owner_item s =
+      if is_live V.table s
+      then begin_object ++ (count_member (codes "starter") s ++ (owned_member s Processes ++ (owned_member s Descriptions ++ (owned_member s Pipes ++ end_object))))
+      else []
 
   -- all live transactions, by their rising starters, or that of one
   abbrev pub owners_member : List Token
@@ -62,11 +60,6 @@ module _ (V : View) where
 
   abbrev pub owner_member : ℕ → List Token
   owner_member s = list_member (codes "owners") (owner_item s)
-
--- the starter of a transaction, where a state would differ without it
-abbrev pub transaction_member : {A : Type 0} → ℕ → Option A → List Token
-transaction_member s None = null_member (codes "transaction")
-transaction_member s (Some differences) = count_member (codes "transaction") s
 
 -- since which step, where one is found
 abbrev pub since_members : Option Numbered → List Token
@@ -92,11 +85,7 @@ abbrev pub made_member : ℕ → Option Accepted → List Token
 made_member number None = null_member (codes "change")
 made_member number (Some entry) = object_key (codes "change") ++ step_tokens number entry
 
--- the step directly before the position
-abbrev pub last_member : Place → List Token
-last_member p = made_member p.at (slice_get (reverse p.history) (p.at - 1))
-
--- it, where it was found to change a piece
+-- the step directly before the position, where it was found to change a piece
 abbrev pub change_member : Place → Option Change → List Token
 change_member p None = null_member (codes "change")
-change_member p (Some change) = last_member p
+change_member p (Some change) = made_member p.at (slice_get (reverse p.history) (p.at - 1))

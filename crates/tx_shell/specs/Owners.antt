@@ -23,13 +23,11 @@ module _ (V : View) where
   abbrev pub owned_text : ℕ → Kind → List ℕ
   owned_text s kind = 32 ∷ (word_of kind ++ list_text (listed_below (owns_one s kind) (limit_of kind)))
 
-  -- the line of a live transaction
-  abbrev pub owner_text : ℕ → List ℕ
-  owner_text s = codes "owns " ++ (decimal s ++ (owned_text s Processes ++ (owned_text s Descriptions ++ (owned_text s Pipes ++ 10 ∷ []))))
-
   -- the line of the transaction that process s began, where one is live
   abbrev pub owner_line : ℕ → List ℕ
-  owner_line s = if is_live V.table s then owner_text s else []
+  owner_line s =
+      if is_live V.table s
+      then codes "owns " ++ (decimal s ++ (owned_text s Processes ++ (owned_text s Descriptions ++ (owned_text s Pipes ++ 10 ∷ [])))) else []
 
   -- the lines of all live transactions, by their rising starters
   abbrev pub owner_lines : List ℕ

@@ -1,5 +1,5 @@
 -- Why a step would be refused, as it is told.
-use Rattle.std.specs.Prelude.{◌≡◌, ℕ, ℤ, List, [], ◌∷◌, ◌++◌, Option, Some, None, MatchOption, codes, map, option_map, if◌then◌else◌, IfSome, IsTrue}
+use Rattle.std.specs.Prelude.{◌≡◌, ℕ, ℤ, List, [], ◌∷◌, ◌++◌, Option, Some, None, codes, map, option_map, if◌then◌else◌, IfSome, IsTrue}
 use Rattle.std.specs.Fmt.{decimal, signed_decimal}
 use Rattle.std.specs.Str.{IsUtf8}
 use Rattle.tx_base.specs.declared.steps.Accepted.{Accepted}
@@ -20,12 +20,13 @@ use Rattle.tx_model.specs.View.{view}
 use Rattle.tx_shell.specs.Blockers.{blocked, blocked_by, blocked_of, names_one, Blocked}
 use Rattle.tx_shell.specs.Holders.{awaited_by, holders_line, side_holders}
 use Rattle.tx_shell.specs.Kinds.{limit_of, word_of}
-use Rattle.tx_shell.specs.Signals.{signal_lines}
 use Rattle.tx_shell.specs.declared.questions.kinds.Kind.{Kind}
-use Rattle.tx_shell.specs.declared.questions.kinds.Kind.TheVariants.{Pipes}
+use Rattle.tx_shell.specs.declared.questions.kinds.Kind.TheVariants.{Pipes, Processes}
 use Rattle.tx_shell.specs.declared.questions.reasons.Reason.{Reason}
+use Rattle.tx_step.specs.TwoAnswers.{two_answers}
+use Rattle.tx_step.specs.declared.differing.TwoAnswers.{TwoAnswers}
 use Rattle.tx_text.specs.Each.{each_text, upto}
-use Rattle.tx_text.specs.Replies.{named_reply_text}
+use Rattle.tx_text.specs.Replies.{error_name, named_reply_text, spaced_name}
 
 -- of a word that is explained: a page that begins with it. Of another one: that it is none, and where the words are
 pub record HelpsOn (word text : List ℕ) : Type 0 where
@@ -33,57 +34,50 @@ pub record HelpsOn (word text : List ℕ) : Type 0 where
   pub opens : IsUtf8 word → IfSome (asked word) (λ name. IsTrue (opens name text))
   pub unknown : asked word ≡ None → text ≡ codes "? not explained; help lists the commands, txos explain all other words\n"
 
--- since which step
-abbrev pub touch_text : Numbered → List ℕ
-touch_text first = codes " since step " ++ (decimal first.number ++ (codes ": " ++ step_text first.step))
-
+-- since which step, where one is found
 abbrev pub since_text : Option Numbered → List ℕ
 since_text None = []
-since_text (Some first) = touch_text first
+since_text (Some first) = codes " since step " ++ (decimal first.number ++ (codes ": " ++ step_text first.step))
 
--- why it was refused, if it was
-abbrev pub refusal_in : Reply → Option Refusal
-refusal_in (No why) = Some why
-refusal_in reply = None
-
--- what an object is called, and whose it is
+-- what an object is called
 abbrev pub name_text : Kind → ℕ → List ℕ
 name_text kind number = word_of kind ++ decimal number
-
-abbrev pub holder_text : ℕ → List ℕ
-holder_text s = codes ": the transaction of " ++ (decimal s ++ codes " has it")
-
--- that a child's end is waited for
-abbrev pub child_text : ℤ → List ℕ
-child_text child = codes "proc " ++ (signed_decimal child ++ codes " has not ended\n")
-
--- why a pipe is waited for
-abbrev pub no_byte : List ℕ
-no_byte = codes " has no byte\n"
-
-abbrev pub no_room : List ℕ
-no_room = codes " has too little room\n"
 
 -- what a step waits for: a child's end, a byte in a pipe, or room for all its bytes; by the lines of the pipes that it names, and of who has their other
 -- side open
 abbrev pub waited_by : (List ℕ → List ℕ) → (Side → List ℕ) → Step → List ℕ
-waited_by pipes who (steps.Call p (calls.Waitpid child nohang)) = child_text child
-waited_by pipes who (steps.Call p (calls.Read fd address count)) = pipes no_byte ++ who WriteSide
-waited_by pipes who (steps.Call p (calls.Write fd address count)) = pipes no_room ++ who ReadSide
+waited_by pipes who (steps.Call p (calls.Waitpid child nohang)) = codes "proc " ++ (signed_decimal child ++ codes " has not ended\n")
+waited_by pipes who (steps.Call p (calls.Read fd address count)) = pipes (codes " has no byte\n") ++ who WriteSide
+waited_by pipes who (steps.Call p (calls.Write fd address count)) = pipes (codes " has too little room\n") ++ who ReadSide
 waited_by pipes who other = []
-
--- that a step would be answered so
-abbrev pub answered_text : Reply → List ℕ
-answered_text reply = codes ": it would be answered " ++ (named_reply_text reply ++ 10 ∷ [])
 
 -- the line of an object in the way
 abbrev pub blocked_line : Blocked → List ℕ
-blocked_line b = name_text b.kind b.number ++ (holder_text b.owner ++ (since_text b.since ++ 10 ∷ []))
+blocked_line b = name_text b.kind b.number ++ (codes ": the transaction of " ++ (decimal b.owner ++ (codes " has it" ++ (since_text b.since ++ 10 ∷ []))))
+
+-- what is answered, with the name of an error
+abbrev pub named_text : ℤ → List ℕ
+named_text x = signed_decimal x ++ spaced_name (error_name x)
+
+-- the line of a signal to s that has two answers: which it is, how it would be answered now, and how after an abort
+abbrev pub twice_line : ℕ → TwoAnswers → List ℕ
+twice_line s twice =
+    (codes "signal " ++ (decimal twice.signo.0 ++ (codes " to " ++ (decimal s ++ codes ": it would be answered "))))
+    ++ (named_text twice.present ++ (codes " now, and " ++ (named_text twice.after_abort
+    ++ (codes " if the transaction of " ++ (decimal s ++ codes " were aborted\n")))))
+
+abbrev pub twice_line_if : ℕ → Option TwoAnswers → List ℕ
+twice_line_if s None = []
+twice_line_if s (Some twice) = twice_line s twice
 
 module _ (S : State) (h : List Accepted) (step : Step) where
-  -- the lines of the objects in its way
-  abbrev pub object_lines : List ℕ
-  object_lines = each_text blocked_line (blocked S h step)
+  -- the line of the first signal of the step to the starter s that has two answers
+  abbrev pub signal_line : ℕ → List ℕ
+  signal_line s = twice_line_if s (two_answers (view S h) step s)
+
+  -- the lines of all such starters, by rising numbers
+  abbrev pub signal_lines : List ℕ
+  signal_lines = upto signal_line (limit_of Processes)
 
   -- the line of a pipe that the step names, and waits for
   abbrev pub pipe_line : List ℕ → ℕ → List ℕ
@@ -92,20 +86,14 @@ module _ (S : State) (h : List Accepted) (step : Step) where
   abbrev pub pipe_lines : List ℕ → List ℕ
   pipe_lines why = upto (pipe_line why) (limit_of Pipes)
 
-  -- the line of who has that side of such a pipe open
-  abbrev pub open_line : Side → List ℕ
-  open_line side = holders_line side (side_holders (view S h) step side)
-
+  -- the lines of those pipes, and of who has that side of one open
   abbrev pub waited_text : List ℕ
-  waited_text = waited_by pipe_lines open_line step
+  waited_text = waited_by pipe_lines (λ side. holders_line side (side_holders (view S h) step side)) step
 
-  -- the objects in the way of the step, and its signals that have two answers
-  abbrev pub busy_lines : List ℕ
-  busy_lines = object_lines ++ signal_lines S h step
-
-  -- the facts of a refusal: of a step in whose way a transaction is, these; of one that waits, for what
+  -- the facts of a refusal: of a step in whose way a transaction is, the objects in its way, and its signals that have two answers; of one that waits,
+  -- for what
   abbrev pub fact_lines : Refusal → List ℕ
-  fact_lines (Busy starter) = busy_lines
+  fact_lines (Busy starter) = each_text blocked_line (blocked S h step) ++ signal_lines
   fact_lines Wait = waited_text
   fact_lines why = []
 
@@ -117,19 +105,14 @@ module _ (S : State) (h : List Accepted) (step : Step) where
 
   -- what is told after a reply: nothing where the step is not refused
   abbrev pub TellsReason : Reply → List ℕ → Type 0
-  TellsReason reply behind = MatchOption (refusal_in reply) (behind ≡ []) (λ why. TellsRefusal why behind)
-
-  -- what is told of a step that would get this reply: the reply first, and then why
-  pub record TellsReply (reply : Reply) (behind : List ℕ) : Type 0 where
-    pub reason : List ℕ
-    pub told : behind ≡ answered_text reply ++ reason
-    pub why : TellsReason reply reason
+  TellsReason (No why) behind = TellsRefusal why behind
+  TellsReason reply behind = behind ≡ []
 
   -- the step, and after it that it would get this reply, and why it would be refused
   pub record TellsWhy (reply : Reply) (text : List ℕ) : Type 0 where
-    pub behind : List ℕ
-    pub told : text ≡ step_text step ++ behind
-    pub replied : TellsReply reply behind
+    pub reason : List ℕ
+    pub told : text ≡ step_text step ++ (codes ": it would be answered " ++ (named_reply_text reply ++ 10 ∷ reason))
+    pub why : TellsReason reply reason
 
 -- what there is to tell of a step that would get this reply: what is in its way, and who could end its wait
 pub record IsReason (S : State) (h : List Accepted) (step : Step) (reply : Reply) (reason : Reason) : Type 0 where

@@ -1,12 +1,11 @@
 -- Where a talk stands, and how a line leads it on.
 use Rattle.std.specs.Prelude.{◌≡◌, ◌≢◌, ◌⊎◌, ℕ, Bool, false, true, List, [], Option, Some, None, codes}
 use Rattle.tx_base.specs.declared.steps.Step.{Step}
-use Rattle.tx_shell.specs.Answers.{AnswersWords}
+use Rattle.tx_shell.specs.Answers.{AnswersWords, StopsShortOf}
 use Rattle.tx_shell.specs.Forms.{SaysNothing, SaysPosition}
 use Rattle.tx_shell.specs.Meanings.{meant_line}
 use Rattle.tx_shell.specs.Origins.{Origin, SaysNoOrigin, SaysOrigin}
 use Rattle.tx_shell.specs.Places.{origin_of, Place, place_of}
-use Rattle.tx_shell.specs.Refused.{StopsShortOf}
 use Rattle.tx_shell.specs.declared.answers.forms.Form.{Form}
 use Rattle.tx_shell.specs.declared.shell.Shell.{Shell}
 use Rattle.tx_shell.specs.declared.lines.versions.TextVersion.TheVariants.{Three}

@@ -1,10 +1,9 @@
 //! Answers what a line means.
-ghost use Rattle.std.specs.Prelude.{◌≡◌, IfOk, OnErr, OnOk, Some, length, string_bytes, true};
+ghost use Rattle.std.specs.Prelude.{◌≡◌, IfOk, OnErr, OnOk, Some, length, string_bytes};
 ghost use Rattle.tx_journal.specs.Sessions.{start_of, SameBoot};
 ghost use Rattle.tx_journal.specs.Entries.{history_of};
-ghost use Rattle.tx_shell.specs.Answers.{left_by, refused_by, AnswersAskIn, AnswersStep, AnswersWords};
+ghost use Rattle.tx_shell.specs.Answers.{left_by, refused_by, AnswersAskIn, AnswersStep, AnswersWords, StopsShort, StopsShortOf};
 ghost use Rattle.tx_shell.specs.Places.{origin_of, place_of};
-ghost use Rattle.tx_shell.specs.Refused.{StopsShort, StopsShortOf};
 
 pub mod answer;
 pub mod as_json;
@@ -152,15 +151,8 @@ fn leave(session: &mut Session, lets_go: bool)
     ensures place { place_of session.new ≡ left_by lets_go (place_of session.old) }
     ensures boot { SameBoot session.new session.old }
 {
-    if lets_go {
-        cut(session);
+    if !lets_go {
+        return;
     }
-}
-
-/// Lets go of the steps after the position.
-fn cut(session: &mut Session)
-    ensures place { place_of session.new ≡ left_by true (place_of session.old) }
-    ensures boot { SameBoot session.new session.old }
-{
     session.cut();
 }

@@ -4,10 +4,9 @@ ghost use Rattle.tx_journal.specs.Entries.{history_of};
 ghost use Rattle.tx_journal.specs.Sessions.{made_of, position_of, start_of, IsBetween, SameJournal};
 ghost use Rattle.tx_journal.specs.Trials.{answer_there};
 ghost use Rattle.tx_script.specs.Debug.{command_answer, position_after};
-ghost use Rattle.tx_shell.specs.Answers.{last_why, IsAnswer, Walks};
+ghost use Rattle.tx_shell.specs.Answers.{last_why, IsAnswer, StopsShort, Walks};
 ghost use Rattle.tx_shell.specs.Places.{place_of};
 ghost use Rattle.tx_shell.specs.Forms.{IsPlaced};
-ghost use Rattle.tx_shell.specs.Refused.{StopsShort};
 ghost use Rattle.tx_shell.specs.declared.answers.answer.Answer.TheVariants as answers;
 
 use crate::answers::count_steps;

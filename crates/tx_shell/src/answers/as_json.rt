@@ -15,7 +15,7 @@ mod steps;
 use crate::answers::answer::Answer;
 use crate::answers::as_json::blockers::put_blockers;
 use crate::answers::as_json::changes::put_change;
-use crate::answers::as_json::owners::{put_owner_alone, put_owners, put_transaction};
+use crate::answers::as_json::owners::{put_owner_alone, put_owners};
 use crate::answers::as_json::steps::put_steps;
 use crate::answers::as_text::answer_text;
 use crate::lines::versions::TextVersion;
@@ -24,8 +24,8 @@ use std::alloc::{AllocError, Global};
 use tx_base::{NoMemory, Pid, Reply, Step};
 use tx_journal::Session;
 use tx_json::{
-    Holder, LineWriter, begin_lines, end_answer, position_answer, put_holders, put_reply,
-    state_answer, trial_answer,
+    Holder, LineWriter, begin_lines, end_answer, position_answer, put_count, put_holders, put_null,
+    put_reply, state_answer, trial_answer,
 };
 
 /// The line of an answer.
@@ -84,20 +84,21 @@ fn put_members(
     writer: &mut LineWriter,
     session: &Session,
     answer: &Answer,
-) -> Result<(), NoMemory>
+) -> Result<(), AllocError>
     requires { IsPlaced (position_of session.now) answer.now }
     ensures { OnOk result (writer.new ≡ writer.old ++ answer_members (start_of session.now)
         (history_of (made_of session.now)) (place_of session.now) answer.now) }
 {
     match answer {
-        Answer::Steps(first, last) => Ok(put_steps(alloc, writer, session, *first, *last)?),
-        Answer::Without(starter, found) => Ok(put_transaction(writer, *starter, found)?),
-        Answer::Change(found) => Ok(put_change(alloc, writer, session, found)?),
-        Answer::Why(step, reply) => put_why(alloc, writer, session, step, reply),
-        Answer::Owners => Ok(put_owners(writer, session.machine())?),
-        Answer::OwnersOf(starter) => {
-            Ok(put_owner_alone(writer, session.machine(), Pid(*starter))?)
+        Answer::Steps(first, last) => put_steps(alloc, writer, session, *first, *last),
+        Answer::Without(starter, Some(_lines)) => {
+            put_count(writer, "transaction", u64::from(*starter))
         }
+        Answer::Without(_, None) => put_null(writer, "transaction"),
+        Answer::Change(found) => put_change(alloc, writer, session, found),
+        Answer::Why(step, reply) => put_why(alloc, writer, session, step, reply),
+        Answer::Owners => put_owners(writer, session.machine()),
+        Answer::OwnersOf(starter) => put_owner_alone(writer, session.machine(), Pid(*starter)),
         Answer::Walked(_)
         | Answer::State
         | Answer::Position
@@ -115,15 +116,14 @@ fn put_why(
     session: &Session,
     step: &Step,
     reply: &Reply,
-) -> Result<(), NoMemory>
+) -> Result<(), AllocError>
     ensures { OnOk result (writer.new ≡ writer.old ++ why_members (start_of session.now)
         (history_of (made_of session.now)) step.now reply.now) }
 {
     let reason = reason_of(alloc, session, step, reply)?;
     put_reply(alloc, writer, reply)?;
     put_blockers(alloc, writer, reason.blockers.as_slice())?;
-    put_awaited(writer, &reason.holders)?;
-    Ok(())
+    put_awaited(writer, &reason.holders)
 }
 
 /// Appends who could end a wait, where it is one for a pipe.

@@ -1,9 +1,9 @@
 //! Prints an answer as text.
-ghost use Rattle.std.specs.Prelude.{◌≡◌, ◌++◌, ◌∷◌, IfOk, option_map, string_bytes};
+ghost use Rattle.std.specs.Prelude.{◌≡◌, ◌++◌, ◌∷◌, IfOk, string_bytes};
 ghost use Rattle.tx_journal.specs.Entries.{history_of};
 ghost use Rattle.tx_journal.specs.Sessions.{made_of, position_of};
 ghost use Rattle.tx_shell.specs.Places.{origin_of, place_of};
-ghost use Rattle.tx_shell.specs.Forms.{without_text, IsPlaced, TellsAnswer};
+ghost use Rattle.tx_shell.specs.Forms.{IsPlaced, TellsAnswer};
 ghost use Rattle.tx_text.specs.Replies.{named_reply_text};
 
 use crate::answers::answer::Answer;
@@ -14,9 +14,9 @@ use crate::questions::changes::tell_found;
 use crate::questions::owners::{list_owner, list_owners};
 use crate::questions::reasons::tell_why;
 use std::alloc::Global;
+use std::fmt::Write;
 use tx_base::{NoMemory, Reply};
 use tx_journal::Session;
-use tx_lines::put;
 use tx_text::put_named_reply;
 
 /// The lines of an answer.
@@ -40,7 +40,8 @@ pub fn answer_text(
         Answer::Steps(first, last) => list_steps(alloc, session, *first, *last),
         Answer::Schedule => print_schedule(alloc, version, session),
         Answer::Trial(reply, differences) => trial_text(alloc, reply, differences.as_str()),
-        Answer::Without(_, differences) => without_text(alloc, differences),
+        Answer::Without(_, Some(differences)) => text_as(alloc, differences.as_str()),
+        Answer::Without(_, None) => text_as(alloc, "no transaction\n"),
         Answer::Change(found) => tell_found(alloc, session, found),
         Answer::Why(step, reply) => tell_why(alloc, session, step, reply),
         Answer::NothingRefused => text_as(alloc, "nothing was refused\n"),
@@ -57,18 +58,6 @@ fn trial_text(alloc: Global, reply: &Reply, differences: &str) -> Result<String,
 {
     let mut text = String::new(alloc);
     put_named_reply(&mut text, reply)?;
-    put(&mut text, "\n")?;
-    put(&mut text, differences)?;
+    write!(&mut text, "\n{differences}")?;
     Ok(text)
-}
-
-/// The lines by which the state would differ without a transaction, or that there is none.
-fn without_text(alloc: Global, differences: &Option<String>) -> Result<String, NoMemory>
-    ensures { IfOk result (λ text. string_bytes text
-        ≡ without_text (option_map string_bytes differences.now)) }
-{
-    match differences {
-        Some(lines) => text_as(alloc, lines.as_str()),
-        None => text_as(alloc, "no transaction\n"),
-    }
 }

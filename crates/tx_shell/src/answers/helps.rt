@@ -7,7 +7,6 @@ use std::alloc::Global;
 use std::str;
 use tx_base::NoMemory;
 use tx_explain::explain;
-use tx_lines::put;
 
 /// What can be asked for.
 const HELP: &str = "\
@@ -71,7 +70,5 @@ pub fn help_page() -> &'static str
 pub fn text_as(alloc: Global, words: &str) -> Result<String, NoMemory>
     ensures { IfOk result (λ text. string_bytes text ≡ words.now) }
 {
-    let mut text = String::new(alloc);
-    put(&mut text, words)?;
-    Ok(text)
+    Ok(words.to_string(alloc)?)
 }

@@ -2,21 +2,22 @@
 ghost use Rattle.std.specs.Prelude.{◌≡◌, ◌++◌, ◌∷◌, [], IfOk, OnOk, length, map, take, string_bytes};
 ghost use Rattle.tx_journal.specs.Entries.{accepted_of, history_of};
 ghost use Rattle.tx_journal.specs.Sessions.{made_of, position_of, start_of};
-ghost use Rattle.tx_lines.specs.Lines.{header_text, step_text};
+ghost use Rattle.tx_lines.specs.Lines.{header_text};
 ghost use Rattle.tx_lines.specs.Schedule.{steps_text};
 ghost use Rattle.tx_lines.specs.declared.read.header.TextKind.TheVariants.{Schedule};
 ghost use Rattle.tx_model.specs.Schedules.{history_of as history_after};
 ghost use Rattle.tx_script.specs.Debug.{first_steps, position_text};
-ghost use Rattle.tx_shell.specs.Journals.{by_number, listed_between, mark_at, mark_before, no_steps_line, or_no_steps};
-ghost use Rattle.tx_shell.specs.Journals.{schedule_so_far, step_line, steps_listed, steps_made, steps_of};
+ghost use Rattle.tx_shell.specs.Journals.{by_number, listed_between, mark_at, mark_before, or_no_steps};
+ghost use Rattle.tx_shell.specs.Journals.{schedule_so_far, steps_listed, steps_made, steps_of};
 ghost use Rattle.tx_shell.specs.Places.{origin_of, place_of};
 ghost use Rattle.tx_shell.specs.Origins.{grammar_of};
 
 use crate::lines::versions::TextVersion;
 use std::alloc::{AllocError, Global};
-use tx_base::{NoMemory, Reply, Step};
+use std::fmt::Write;
+use tx_base::NoMemory;
 use tx_journal::{Entry, Session};
-use tx_lines::{Version, put, put_count, put_step};
+use tx_lines::{Version, put, put_step};
 use tx_text::put_named_reply;
 
 /// The steps of those numbers, a line each with its number, its worker and its reply, and the position
@@ -45,20 +46,9 @@ fn or_no_steps(alloc: Global, entries: &[Entry], lines: String) -> Result<String
         string_bytes text ≡ or_no_steps (length entries.now) (string_bytes lines)) }
 {
     if lines.is_empty() {
-        return no_steps(alloc, entries.len() as u64);
+        return Ok(format!(in alloc; "no such steps: there are {}\n", entries.len())?);
     }
     Ok(lines)
-}
-
-/// The line that says that there are no such steps, and how many there are.
-fn no_steps(alloc: Global, count: u64) -> Result<String, NoMemory>
-    ensures { IfOk result (λ text. string_bytes text ≡ no_steps_line count) }
-{
-    let mut text = String::new(alloc);
-    put(&mut text, "no such steps: there are ")?;
-    put_count(&mut text, count)?;
-    put(&mut text, "\n")?;
-    Ok(text)
 }
 
 /// Appends the position where it is the one before the first step, and that one is listed.
@@ -67,7 +57,7 @@ fn put_mark_before(text: &mut String, position: u64, first: u64) -> Result<(), A
         (string_bytes text.new ≡ string_bytes text.old ++ mark_before position first) }
 {
     if first <= 1 {
-        put_mark(text, position, 0)?;
+        return put_mark(text, position, 0);
     }
     Ok(())
 }
@@ -78,7 +68,7 @@ fn put_mark(text: &mut String, position: u64, number: u64) -> Result<(), AllocEr
         (string_bytes text.new ≡ string_bytes text.old ++ mark_at position number) }
 {
     if position == number {
-        put_position(text, position)?;
+        return write!(text, "at {position}\n");
     }
     Ok(())
 }
@@ -89,19 +79,7 @@ fn put_mark(text: &mut String, position: u64, number: u64) -> Result<(), AllocEr
 pub fn position_line(alloc: Global, position: usize) -> Result<String, NoMemory>
     ensures { IfOk result (λ text. string_bytes text ≡ position_text position) }
 {
-    let mut text = String::new(alloc);
-    put_position(&mut text, position as u64)?;
-    Ok(text)
-}
-
-/// Appends the line of a position.
-fn put_position(text: &mut String, position: u64) -> Result<(), AllocError>
-    ensures { OnOk result
-        (string_bytes text.new ≡ string_bytes text.old ++ position_text position) }
-{
-    put(text, "at ")?;
-    put_count(text, position)?;
-    put(text, "\n")
+    Ok(format!(in alloc; "at {position}\n")?)
 }
 
 /// Appends what is listed of entries, of which the first has number 1.
@@ -134,28 +112,14 @@ fn put_listed(
         ++ listed_between position first last number (accepted_of entry.now)) }
 {
     if first <= number && number <= last {
-        put_step_line(text, number, &entry.step, &entry.reply)?;
-        put_mark(text, position, number)?;
+        write!(text, "{number} w1 ")?;
+        put_step(text, &entry.step)?;
+        put(text, " : ")?;
+        put_named_reply(text, &entry.reply)?;
+        put(text, "\n")?;
+        return put_mark(text, position, number);
     }
     Ok(())
-}
-
-/// Appends the line of a step.
-fn put_step_line(
-    text: &mut String,
-    number: u64,
-    step: &Step,
-    reply: &Reply,
-) -> Result<(), AllocError>
-    ensures { OnOk result (string_bytes text.new ≡ string_bytes text.old
-        ++ step_line number (record { step = step.now; reply = reply.now })) }
-{
-    put_count(text, number)?;
-    put(text, " w1 ")?;
-    put_step(text, step)?;
-    put(text, " : ")?;
-    put_named_reply(text, reply)?;
-    put(text, "\n")
 }
 
 /// The text of the schedule that makes the steps up to the position.
@@ -193,11 +157,9 @@ fn put_header(text: &mut String, version: TextVersion, count: u16) -> Result<(),
         ++ 10 ∷ [])) }
 {
     match version.grammar() {
-        Version::One => put(text, "txos 1 schedule ")?,
-        Version::Two => put(text, "txos 2 schedule ")?,
+        Version::One => write!(text, "txos 1 schedule {count}\n"),
+        Version::Two => write!(text, "txos 2 schedule {count}\n"),
     }
-    put_count(text, u64::from(count))?;
-    put(text, "\n")
 }
 
 /// Appends the steps of entries, a line each.
@@ -206,16 +168,8 @@ fn put_steps(text: &mut String, entries: &[Entry]) -> Result<(), AllocError>
         (string_bytes text.new ≡ string_bytes text.old ++ steps_text (steps_of entries.now)) }
 {
     for entry in entries {
-        put_step_end(text, &entry.step)?;
+        put_step(text, &entry.step)?;
+        put(text, "\n")?;
     }
     Ok(())
-}
-
-/// Appends the line of a step in a schedule.
-fn put_step_end(text: &mut String, step: &Step) -> Result<(), AllocError>
-    ensures { OnOk result (string_bytes text.new ≡ string_bytes text.old
-        ++ (step_text step.now ++ 10 ∷ [])) }
-{
-    put_step(text, step)?;
-    put(text, "\n")
 }

@@ -9,7 +9,6 @@ use std::alloc::Global;
 use tx_base::NoMemory;
 use tx_check::session_line;
 use tx_json::error_answer;
-use tx_lines::put;
 
 /// What is wrong with a line of that version, in a form.
 ///
@@ -36,9 +35,5 @@ fn mark(alloc: Global, line: &[u8], told: &str) -> Result<String, NoMemory>
     requires { IsSessionTold line.now told.now }
     ensures { IfOk result (λ text. TellsOf line.now (string_bytes text)) }
 {
-    let mut text = String::new(alloc);
-    put(&mut text, "? ")?;
-    put(&mut text, told)?;
-    put(&mut text, "\n")?;
-    Ok(text)
+    Ok(format!(in alloc; "? {told}\n")?)
 }

@@ -53,10 +53,7 @@ fn read_of_process(words: &[u8]) -> Option<Piece>
     if let Some(pid) = pid_behind(b"queue ", words) {
         return Some(Piece::Queue(pid));
     }
-    match pid_behind(b"ids ", words) {
-        Some(pid) => Some(Piece::Ids(pid)),
-        None => None,
-    }
+    pid_behind(b"ids ", words).map(Piece::Ids)
 }
 
 /// The process number behind that front. Nothing where something else is there.

@@ -13,14 +13,15 @@ ghost use Rattle.tx_reserve.specs.Reservations.{number_of};
 ghost use Rattle.tx_shell.specs.Blockers.{blocked, blocked_at, blocked_in, blocked_of};
 ghost use Rattle.tx_shell.specs.Kinds.{limit_of};
 ghost use Rattle.tx_shell.specs.Places.{view_at};
-ghost use Rattle.tx_shell.specs.Reasons.{blocked_line, holder_text, name_text, since_text, touch_text};
+ghost use Rattle.tx_shell.specs.Reasons.{blocked_line, since_text};
 ghost use Rattle.tx_text.specs.Each.{each_text};
 
 use crate::questions::kinds::Kind;
 use std::alloc::{AllocError, Global};
+use std::fmt::Write;
 use tx_base::{Pid, Step};
 use tx_journal::{Session, Touch};
-use tx_lines::{put, put_count, put_step};
+use tx_lines::{put, put_step};
 use tx_reserve::{Object, Objects};
 
 /// An object that a step names, and that a live transaction has reserved of which its process is no
@@ -118,28 +119,15 @@ fn put_object(text: &mut String, blocker: Blocker<'_>) -> Result<(), AllocError>
     ensures { OnOk result (string_bytes text.new
         ≡ string_bytes text.old ++ blocked_line (blocked_of blocker.entry)) }
 {
-    put_name(text, blocker.kind, blocker.number)?;
-    put_holder(text, blocker.owner)?;
+    write!(
+        text,
+        "{}{}: the transaction of {} has it",
+        blocker.kind.word(),
+        blocker.number,
+        blocker.owner.0
+    )?;
     put_since(text, blocker.since)?;
     put(text, "\n")
-}
-
-/// Appends what the object of a kind and a number is called.
-pub fn put_name(text: &mut String, kind: Kind, number: u16) -> Result<(), AllocError>
-    ensures { OnOk result
-        (string_bytes text.new ≡ string_bytes text.old ++ name_text kind number) }
-{
-    put(text, kind.word())?;
-    put_count(text, u64::from(number))
-}
-
-/// Appends that the transaction of a starter has it.
-fn put_holder(text: &mut String, owner: Pid) -> Result<(), AllocError>
-    ensures { OnOk result (string_bytes text.new ≡ string_bytes text.old ++ holder_text owner.0) }
-{
-    put(text, ": the transaction of ")?;
-    put_count(text, u64::from(owner.0))?;
-    put(text, " has it")
 }
 
 /// Appends since which step that is so, where one is found.
@@ -148,20 +136,12 @@ fn put_since(text: &mut String, since: Option<Touch<'_>>) -> Result<(), AllocErr
         ≡ string_bytes text.old ++ since_text (option_map numbered since.entry)) }
 {
     match since {
-        Some(touch) => put_touch(text, touch),
+        Some(touch) => {
+            write!(text, " since step {}: ", touch.number)?;
+            put_step(text, touch.step)
+        }
         None => Ok(()),
     }
-}
-
-/// Appends since which step.
-fn put_touch(text: &mut String, touch: Touch<'_>) -> Result<(), AllocError>
-    ensures { OnOk result
-        (string_bytes text.new ≡ string_bytes text.old ++ touch_text (numbered touch.entry)) }
-{
-    put(text, " since step ")?;
-    put_count(text, touch.number as u64)?;
-    put(text, ": ")?;
-    put_step(text, touch.step)
 }
 
 /// The objects that a step names at the position.

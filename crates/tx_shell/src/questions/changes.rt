@@ -1,17 +1,17 @@
 //! Finds the step that changed a piece of the state last, or changes it next.
-ghost use Rattle.std.specs.Prelude.{◌≡◌, ◌≤◌, ◌<◌, ◌+◌, ◌++◌, IfOk, IfSome, MatchOption, OnErr, OnOk, length, string_bytes};
+ghost use Rattle.std.specs.Prelude.{◌≡◌, ◌≤◌, ◌<◌, ◌+◌, IfOk, IfSome, MatchOption, OnErr, OnOk, length, string_bytes};
 ghost use Rattle.tx_journal.specs.Entries.{history_of};
 ghost use Rattle.tx_journal.specs.Sessions.{position_of, IsBetween, SameJournal};
-ghost use Rattle.tx_shell.specs.Changes.{change_line, no_change_text, AllShow, FindsLast, FindsNext, MeetsBack, MeetsNext};
-ghost use Rattle.tx_shell.specs.Changes.{shown_in, ShowsOthers, TellsFound, TellsStep};
+ghost use Rattle.tx_shell.specs.Changes.{AllShow, FindsLast, FindsNext, MeetsBack, MeetsNext};
+ghost use Rattle.tx_shell.specs.Changes.{shown_in, ShowsOthers, TellsFound};
 ghost use Rattle.tx_shell.specs.Places.{place_of};
 
 use crate::answers::reserving::reserve_walk;
 use crate::questions::differences::put_differing;
-use std::alloc::{AllocError, Global};
-use tx_base::{NoMemory, Step};
+use std::alloc::Global;
+use tx_base::NoMemory;
 use tx_journal::{Piece, Session, put_piece};
-use tx_lines::{Command, put, put_count, put_step};
+use tx_lines::{Command, put, put_step};
 
 /// How the step directly before the position changed a piece of the state.
 #[derive(Drop)]
@@ -84,17 +84,18 @@ pub fn tell_found(
         TellsFound (history_of session.now.entries) (position_of session.now) found.now
         (string_bytes text)) }
 {
-    match found {
-        Some(change) => {
-            change_lines(
-                alloc,
-                session,
-                change.before.as_str(),
-                change.after.as_str(),
-            )
-        }
-        None => no_change_line(alloc, session.position()),
-    }
+    let position = session.position();
+    let Some(change) = found else {
+        return Ok(format!(in alloc; "at {position}: no change\n")?);
+    };
+    let Some(entry) = session.entry(position) else {
+        unreachable!()
+    };
+    let mut text = format!(in alloc; "at {position}: ")?;
+    put_step(&mut text, &entry.step)?;
+    put(&mut text, "\n")?;
+    put_differing(&mut text, change.before.as_str(), change.after.as_str())?;
+    Ok(text)
 }
 
 /// Takes steps back as long as a piece has these lines. Answers the others that it has then; nothing at
@@ -204,49 +205,5 @@ fn lines_there(alloc: Global, session: &Session, piece: Piece) -> Result<String,
 {
     let mut text = String::new(alloc);
     put_piece(&mut text, session.machine(), piece)?;
-    Ok(text)
-}
-
-/// The lines that tell the step directly before the position, which changed a piece so.
-fn change_lines(
-    alloc: Global,
-    session: &Session,
-    before: &str,
-    after: &str,
-) -> Result<String, NoMemory>
-    requires { 1 ≤ position_of session.now }
-    ensures { IfOk result (λ text. TellsStep (history_of session.now.entries)
-        (position_of session.now) before.now after.now (string_bytes text)) }
-{
-    let position = session.position();
-    let Some(entry) = session.entry(position) else {
-        unreachable!()
-    };
-    let mut text = String::new(alloc);
-    put_change(&mut text, position as u64, &entry.step)?;
-    put_differing(&mut text, before, after)?;
-    Ok(text)
-}
-
-/// Appends the line of a step that changed a piece.
-fn put_change(text: &mut String, number: u64, step: &Step) -> Result<(), AllocError>
-    ensures { OnOk result (string_bytes text.new
-        ≡ string_bytes text.old ++ change_line number step.now) }
-{
-    put(text, "at ")?;
-    put_count(text, number)?;
-    put(text, ": ")?;
-    put_step(text, step)?;
-    put(text, "\n")
-}
-
-/// The line of a position where no step is told.
-fn no_change_line(alloc: Global, position: usize) -> Result<String, NoMemory>
-    ensures { IfOk result (λ text. string_bytes text ≡ no_change_text position) }
-{
-    let mut text = String::new(alloc);
-    put(&mut text, "at ")?;
-    put_count(&mut text, position as u64)?;
-    put(&mut text, ": no change\n")?;
     Ok(text)
 }

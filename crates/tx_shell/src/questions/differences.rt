@@ -5,8 +5,8 @@ ghost use Rattle.std.specs.Str.Lines.{lines};
 ghost use Rattle.tx_shell.specs.Differences.{all_differing, differing, has_line, left_over, less_line, marked};
 
 use std::alloc::{AllocError, Global};
+use std::fmt::Write;
 use tx_base::NoMemory;
-use tx_lines::put;
 
 /// Appends how each of some texts differs from the one of the others that has its place.
 ///
@@ -96,7 +96,5 @@ fn put_marked(text: &mut String, mark: &str, line: &str) -> Result<(), AllocErro
     ensures { OnOk result (string_bytes text.new
         ≡ string_bytes text.old ++ (mark.now ++ (line.now ++ 10 ∷ []))) }
 {
-    put(text, mark)?;
-    put(text, line)?;
-    put(text, "\n")
+    write!(text, "{mark}{line}\n")
 }

@@ -10,8 +10,8 @@ ghost use Rattle.tx_model.specs.State.{Sending};
 ghost use Rattle.tx_model.specs.View.{present};
 ghost use Rattle.tx_proc.specs.Parts.{process_in};
 ghost use Rattle.tx_reserve.specs.Footprints.{IsSetOf};
-ghost use Rattle.tx_shell.specs.Holders.{awaited_by, holder_at, holder_text, holders, holders_in, holders_line, is_end, named_by};
-ghost use Rattle.tx_shell.specs.Holders.{named_holders, names_end, next_text, other_holders, other_side, side_holders, side_word};
+ghost use Rattle.tx_shell.specs.Holders.{awaited_by, holder_at, holders, holders_in, holders_line, is_end, named_by};
+ghost use Rattle.tx_shell.specs.Holders.{named_holders, names_end, next_text, other_side, side_holders, side_word};
 ghost use Rattle.tx_shell.specs.Kinds.{limit_of};
 ghost use Rattle.tx_shell.specs.Places.{view_at};
 ghost use Rattle.tx_shell.specs.declared.questions.kinds.Kind.TheVariants.{Pipes};
@@ -20,50 +20,33 @@ ghost use Rattle.tx_text.specs.Each.{each_text};
 use crate::questions::blockers::names;
 use crate::questions::kinds::Kind;
 use std::alloc::{AllocError, Global};
-use tx_base::{Call, DESCRIPTORS, DescNo, NoMemory, Pid, Refusal, Reply, Step};
+use std::fmt::Write;
+use tx_base::{Call, DESCRIPTORS, DescNo, Pid, Refusal, Reply, Step};
 use tx_change::Parts;
 use tx_desc::{Opened, Side};
 use tx_journal::Session;
 use tx_json::Holder;
-use tx_lines::{put, put_count};
+use tx_lines::put;
 use tx_proc::Proc;
 use tx_reserve::Objects;
 
 /// Each descriptor by which the wait of a step could end that would get this reply: those that are open
 /// for the other side of the pipe that it reads or writes, by rising processes and descriptors. Nothing
-/// where it does not wait so.
-///
-/// NoMemory where a growth is refused.
+/// where it does not wait so. The only error is that a growth of memory was refused.
 pub fn awaited_holders(
     alloc: Global,
     session: &Session,
     step: &Step,
     reply: &Reply,
-) -> Result<Option<Vec<Holder>>, NoMemory>
+) -> Result<Option<Vec<Holder>>, AllocError>
     ensures { IfOk result (λ found. option_map (λ held. held.items) found
         ≡ awaited_by (view_at session.now) step.now reply.now) }
 {
-    match reply {
-        Reply::No(Refusal::Wait) => other_holders(alloc, session, step),
+    match (reply, other_side(step)) {
+        (Reply::No(Refusal::Wait), Some(side)) => {
+            Ok(Some(side_holders(alloc, session, step, side)?))
+        }
         _ => Ok(None),
-    }
-}
-
-/// Each descriptor that is open for the other side of the pipe that a step reads or writes. Nothing where
-/// it does neither.
-///
-/// NoMemory where a growth is refused.
-fn other_holders(
-    alloc: Global,
-    session: &Session,
-    step: &Step,
-) -> Result<Option<Vec<Holder>>, NoMemory>
-    ensures { IfOk result (λ found.
-        option_map (λ held. held.items) found ≡ other_holders (view_at session.now) step.now) }
-{
-    match other_side(step) {
-        Some(side) => Ok(Some(side_holders(alloc, session, step, side)?)),
-        None => Ok(None),
     }
 }
 
@@ -84,7 +67,7 @@ fn side_holders(
     session: &Session,
     step: &Step,
     side: Side,
-) -> Result<Vec<Holder>, NoMemory>
+) -> Result<Vec<Holder>, AllocError>
     ensures { IfOk result (λ found.
         found.items ≡ side_holders (view_at session.now) step.now (end_for side)) }
 {
@@ -222,9 +205,7 @@ fn put_nobody(text: &mut String, side: Side) -> Result<(), AllocError>
     ensures { OnOk result (string_bytes text.new ≡ string_bytes text.old
         ++ holders_line (end_for side) []) }
 {
-    put(text, "nobody has its ")?;
-    put(text, word(side))?;
-    put(text, " side open\n")
+    write!(text, "nobody has its {} side open\n", word(side))
 }
 
 /// Appends the line of the first that has a side of a pipe open, and of the others.
@@ -237,10 +218,13 @@ fn put_open(
     ensures { OnOk result (string_bytes text.new ≡ string_bytes text.old
         ++ holders_line (end_for side) (first ∷ others.now)) }
 {
-    put(text, "its ")?;
-    put(text, word(side))?;
-    put(text, " side is open: descriptor ")?;
-    put_holder(text, first)?;
+    write!(
+        text,
+        "its {} side is open: descriptor {} of process {}",
+        word(side),
+        first.descriptor,
+        first.process
+    )?;
     put_others(text, others)?;
     put(text, "\n")
 }
@@ -251,28 +235,14 @@ fn put_others(text: &mut String, others: &[Holder]) -> Result<(), AllocError>
         ++ each_text next_text others.now) }
 {
     for i in 0..others.len() {
-        put_next(text, others[i])?;
+        let holder = others[i];
+        write!(
+            text,
+            ", {} of process {}",
+            holder.descriptor, holder.process
+        )?;
     }
     Ok(())
-}
-
-/// Appends one of the others.
-fn put_next(text: &mut String, holder: Holder) -> Result<(), AllocError>
-    ensures { OnOk result
-        (string_bytes text.new ≡ string_bytes text.old ++ next_text holder) }
-{
-    put(text, ", ")?;
-    put_holder(text, holder)
-}
-
-/// Appends a descriptor of a process.
-fn put_holder(text: &mut String, holder: Holder) -> Result<(), AllocError>
-    ensures { OnOk result
-        (string_bytes text.new ≡ string_bytes text.old ++ holder_text holder) }
-{
-    put_count(text, u64::from(holder.descriptor))?;
-    put(text, " of process ")?;
-    put_count(text, u64::from(holder.process))
 }
 
 /// The word for a side.

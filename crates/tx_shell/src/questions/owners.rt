@@ -1,20 +1,17 @@
 //! Tells what live transactions have reserved.
 ghost use Rattle.std.specs.Prelude.{◌≡◌, ◌++◌, IfOk, OnOk, string_bytes};
-ghost use Rattle.tx_lines.specs.Lists.{list_text};
 ghost use Rattle.tx_live.specs.Content.{view_of};
 ghost use Rattle.tx_model.specs.Membership.{is_live};
-ghost use Rattle.tx_shell.specs.Kinds.{limit_of};
-ghost use Rattle.tx_shell.specs.Owners.{listed_below, or_no_transaction, owned_text, owner_line, owner_lines};
-ghost use Rattle.tx_shell.specs.Owners.{owns_one};
+ghost use Rattle.tx_shell.specs.Owners.{or_no_transaction, owned_text, owner_line, owner_lines};
 ghost use Rattle.tx_shell.specs.Places.{view_at};
 
-use crate::answers::helps::text_as;
 use crate::questions::kinds::Kind;
 use std::alloc::{AllocError, Global};
+use std::fmt::Write;
 use tx_base::{NoMemory, Pid};
 use tx_core::Machine;
 use tx_journal::Session;
-use tx_lines::{dash, put, put_count, put_member};
+use tx_lines::{dash, put, put_member};
 
 /// What each live transaction has reserved at the position, a line a transaction, by rising starters.
 ///
@@ -45,7 +42,7 @@ fn or_no_transaction(alloc: Global, lines: String) -> Result<String, NoMemory>
     ensures { IfOk result (λ text. string_bytes text ≡ or_no_transaction (string_bytes lines)) }
 {
     if lines.is_empty() {
-        return text_as(alloc, "no transaction\n");
+        return Ok("no transaction\n".to_string(alloc)?);
     }
     Ok(lines)
 }
@@ -69,8 +66,7 @@ fn put_owner(text: &mut String, machine: &Machine, starter: Pid) -> Result<(), A
     if !is_live(machine, starter) {
         return Ok(());
     }
-    put(text, "owns ")?;
-    put_count(text, u64::from(starter.0))?;
+    write!(text, "owns {}", starter.0)?;
     put_owned(text, machine, starter, Kind::Processes)?;
     put_owned(text, machine, starter, Kind::Descriptions)?;
     put_owned(text, machine, starter, Kind::Pipes)?;
@@ -84,8 +80,8 @@ pub fn is_live(machine: &Machine, starter: Pid) -> bool
     machine.txn_of(starter) == Some(starter)
 }
 
-/// Appends the numbers of a kind that the transaction of a starter has reserved, behind the word for the
-/// kind.
+/// Appends the numbers of a kind that the transaction of a starter has reserved, in rising order, behind the
+/// word for the kind.
 fn put_owned(
     text: &mut String,
     machine: &Machine,
@@ -95,22 +91,7 @@ fn put_owned(
     ensures { OnOk result (string_bytes text.new
         ≡ string_bytes text.old ++ owned_text (view_of machine.now) starter.0 kind) }
 {
-    put(text, " ")?;
-    put(text, kind.word())?;
-    put_numbers(text, machine, starter, kind)
-}
-
-/// Appends the numbers of a kind that the transaction of a starter has reserved, in rising order.
-fn put_numbers(
-    text: &mut String,
-    machine: &Machine,
-    starter: Pid,
-    kind: Kind,
-) -> Result<(), AllocError>
-    ensures { OnOk result (string_bytes text.new ≡ string_bytes text.old
-        ++ list_text (listed_below (owns_one (view_of machine.now) starter.0 kind)
-        (limit_of kind))) }
-{
+    write!(text, " {}", kind.word())?;
     let mut some = false;
     for number in 0..kind.limit() {
         let listed = machine.has_reserved(starter, kind.object(number));

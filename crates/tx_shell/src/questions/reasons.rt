@@ -3,8 +3,8 @@ ghost use Rattle.std.specs.Prelude.{◌≡◌, ◌++◌, ℕ, IfOk, List, OnOk, 
 ghost use Rattle.tx_base.specs.declared.steps.Reply.TheVariants.{No};
 ghost use Rattle.tx_journal.specs.Entries.{history_of};
 ghost use Rattle.tx_journal.specs.Sessions.{made_of, start_of};
-ghost use Rattle.tx_shell.specs.Blockers.{blocked, blocked_by, blocked_of};
-ghost use Rattle.tx_shell.specs.Reasons.{answered_text, busy_lines, fact_lines, IsReason, TellsReason, TellsRefusal, TellsReply, TellsWhy};
+ghost use Rattle.tx_shell.specs.Blockers.{blocked_by, blocked_of};
+ghost use Rattle.tx_shell.specs.Reasons.{fact_lines, IsReason, TellsReason, TellsWhy};
 
 use crate::answers::helps::meaning;
 use crate::questions::blockers::{Blocker, blockers, put_objects};
@@ -27,15 +27,14 @@ pub struct Reason<'a> {
     pub holders: Option<Vec<Holder>>,
 }
 
-/// What there is to tell of a step that would get this reply at the position.
-///
-/// NoMemory where a growth is refused.
+/// What there is to tell of a step that would get this reply at the position. The only error is that a
+/// growth of memory was refused.
 pub fn reason_of<'a>(
     alloc: Global,
     session: &'a Session,
     step: &Step,
     reply: &Reply,
-) -> Result<Reason<'a>, NoMemory>
+) -> Result<Reason<'a>, AllocError>
     ensures { IfOk result (IsReason (start_of session.now) (history_of (made_of session.now))
         step.now reply.now) }
 {
@@ -75,47 +74,13 @@ pub fn tell_why(
         step.now reply.now (string_bytes text)) }
 {
     let reason = reason_of(alloc, session, step, reply)?;
-    why_text(alloc, session, step, reply, &reason)
-}
-
-/// Why a step would get this reply.
-///
-/// NoMemory where a growth is refused.
-pub fn why_text(
-    alloc: Global,
-    session: &Session,
-    step: &Step,
-    reply: &Reply,
-    reason: &Reason<'_>,
-) -> Result<String, NoMemory>
-    requires { IsReason (start_of session.now) (history_of (made_of session.now)) step.now
-        reply.now reason.now }
-    ensures { IfOk result (λ text. TellsWhy (start_of session.now) (history_of (made_of session.now))
-        step.now reply.now (string_bytes text)) }
-{
     let mut text = String::new(alloc);
     put_step(&mut text, step)?;
-    put_behind(&mut text, session, step, reply, reason)?;
+    put(&mut text, ": it would be answered ")?;
+    put_named_reply(&mut text, reply)?;
+    put(&mut text, "\n")?;
+    put_reason(&mut text, session, step, reply, &reason)?;
     Ok(text)
-}
-
-/// Appends what is told of a step that would get this reply.
-fn put_behind(
-    text: &mut String,
-    session: &Session,
-    step: &Step,
-    reply: &Reply,
-    reason: &Reason<'_>,
-) -> Result<(), AllocError>
-    requires { IsReason (start_of session.now) (history_of (made_of session.now)) step.now
-        reply.now reason.now }
-    ensures { OnOk result ((behind : List ℕ)
-        × (string_bytes text.new ≡ string_bytes text.old ++ behind)
-        × TellsReply (start_of session.now) (history_of (made_of session.now)) step.now reply.now
-        behind) }
-{
-    put_answered(text, reply)?;
-    put_reason(text, session, step, reply, reason)
 }
 
 /// Appends why a step would get this reply, where it is refused.
@@ -134,42 +99,16 @@ fn put_reason(
         told) }
 {
     match reply {
-        Reply::No(why) => put_refusal(text, session, step, *why, reason),
+        Reply::No(why) => {
+            put_facts(text, session, step, *why, reason)?;
+            put(text, meaning(refusal_word(*why).as_bytes()))
+        }
         Reply::Done(_)
         | Reply::Ended
         | Reply::Committed { .. }
         | Reply::Aborted(_)
         | Reply::Out(_) => Ok(()),
     }
-}
-
-/// Appends the reply that a step would get.
-fn put_answered(text: &mut String, reply: &Reply) -> Result<(), AllocError>
-    ensures { OnOk result
-        (string_bytes text.new ≡ string_bytes text.old ++ answered_text reply.now) }
-{
-    put(text, ": it would be answered ")?;
-    put_named_reply(text, reply)?;
-    put(text, "\n")
-}
-
-/// Appends why a step would be refused.
-fn put_refusal(
-    text: &mut String,
-    session: &Session,
-    step: &Step,
-    why: Refusal,
-    reason: &Reason<'_>,
-) -> Result<(), AllocError>
-    requires { IsReason (start_of session.now) (history_of (made_of session.now)) step.now
-        (No why) reason.now }
-    ensures { OnOk result ((behind : List ℕ)
-        × (string_bytes text.new ≡ string_bytes text.old ++ behind)
-        × TellsRefusal (start_of session.now) (history_of (made_of session.now)) step.now why
-        behind) }
-{
-    put_facts(text, session, step, why, reason)?;
-    put(text, meaning(refusal_word(why).as_bytes()))
 }
 
 /// Appends the facts of a refusal: of a step in whose way a transaction is, the objects and the
@@ -187,25 +126,11 @@ fn put_facts(
         ++ fact_lines (start_of session.now) (history_of (made_of session.now)) step.now why) }
 {
     match why {
-        Refusal::Busy { .. } => put_blockers(text, session, step, reason.blockers.as_slice()),
+        Refusal::Busy { .. } => {
+            put_objects(text, reason.blockers.as_slice())?;
+            put_signals(text, session, step)
+        }
         Refusal::Wait => put_waited(text, session, step, &reason.holders),
         _ => Ok(()),
     }
-}
-
-/// Appends a line for each object in the way of a step, and for each starter at which a signal of it has
-/// two answers.
-fn put_blockers(
-    text: &mut String,
-    session: &Session,
-    step: &Step,
-    found: &[Blocker<'_>],
-) -> Result<(), AllocError>
-    requires { map blocked_of found.now
-        ≡ blocked (start_of session.now) (history_of (made_of session.now)) step.now }
-    ensures { OnOk result (string_bytes text.new ≡ string_bytes text.old
-        ++ busy_lines (start_of session.now) (history_of (made_of session.now)) step.now) }
-{
-    put_objects(text, found)?;
-    put_signals(text, session, step)
 }

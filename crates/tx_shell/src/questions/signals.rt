@@ -3,14 +3,15 @@ ghost use Rattle.std.specs.Prelude.{◌≡◌, ◌++◌, OnOk, string_bytes};
 ghost use Rattle.tx_journal.specs.Entries.{history_of};
 ghost use Rattle.tx_journal.specs.Sessions.{made_of, start_of};
 ghost use Rattle.tx_shell.specs.Places.{view_at};
-ghost use Rattle.tx_shell.specs.Signals.{answers_text, if_aborted, named_text, sent_text, signal_line, signal_lines, twice_line};
+ghost use Rattle.tx_shell.specs.Reasons.{named_text, signal_line, signal_lines, twice_line};
 ghost use Rattle.tx_step.specs.TwoAnswers.{two_answers};
 
 use crate::questions::kinds::Kind;
 use std::alloc::AllocError;
-use tx_base::{Pid, Signo, Step};
+use std::fmt::Write;
+use tx_base::{Pid, Step};
 use tx_journal::Session;
-use tx_lines::{put, put_count, put_number};
+use tx_lines::put;
 use tx_step::TwoAnswers;
 use tx_text::error_name;
 
@@ -58,31 +59,15 @@ fn put_twice(text: &mut String, starter: Pid, answers: TwoAnswers) -> Result<(),
     ensures { OnOk result
         (string_bytes text.new ≡ string_bytes text.old ++ twice_line starter.0 answers) }
 {
-    put_sent(text, answers.signo, starter)?;
-    put_answers(text, answers.present, answers.after_abort)?;
-    put_if_aborted(text, starter)
-}
-
-/// Appends which signal it is, and to whom.
-fn put_sent(text: &mut String, signo: Signo, starter: Pid) -> Result<(), AllocError>
-    ensures { OnOk result
-        (string_bytes text.new ≡ string_bytes text.old ++ sent_text signo.0 starter.0) }
-{
-    put(text, "signal ")?;
-    put_count(text, u64::from(signo.0))?;
-    put(text, " to ")?;
-    put_count(text, u64::from(starter.0))
-}
-
-/// Appends how it would be answered now, and how after an abort.
-fn put_answers(text: &mut String, present: i64, after_abort: i64) -> Result<(), AllocError>
-    ensures { OnOk result
-        (string_bytes text.new ≡ string_bytes text.old ++ answers_text present after_abort) }
-{
-    put(text, ": it would be answered ")?;
-    put_named(text, present)?;
+    write!(
+        text,
+        "signal {} to {}: it would be answered ",
+        answers.signo.0, starter.0
+    )?;
+    put_named(text, answers.present)?;
     put(text, " now, and ")?;
-    put_named(text, after_abort)
+    put_named(text, answers.after_abort)?;
+    write!(text, " if the transaction of {} were aborted\n", starter.0)
 }
 
 /// Appends what is answered, with the name of an error.
@@ -90,22 +75,8 @@ fn put_named(text: &mut String, answer: i64) -> Result<(), AllocError>
     ensures { OnOk result
         (string_bytes text.new ≡ string_bytes text.old ++ named_text answer) }
 {
-    put_number(text, answer)?;
     match error_name(answer) {
-        Some(name) => {
-            put(text, " ")?;
-            put(text, name)
-        }
-        None => Ok(()),
+        Some(name) => write!(text, "{answer} {name}"),
+        None => write!(text, "{answer}"),
     }
-}
-
-/// Appends after an abort of which transaction.
-fn put_if_aborted(text: &mut String, starter: Pid) -> Result<(), AllocError>
-    ensures { OnOk result
-        (string_bytes text.new ≡ string_bytes text.old ++ if_aborted starter.0) }
-{
-    put(text, " if the transaction of ")?;
-    put_count(text, u64::from(starter.0))?;
-    put(text, " were aborted\n")
 }

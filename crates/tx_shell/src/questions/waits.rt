@@ -9,18 +9,18 @@ ghost use Rattle.tx_shell.specs.Holders.{other_holders};
 ghost use Rattle.tx_shell.specs.Kinds.{limit_of};
 ghost use Rattle.tx_shell.specs.Places.{view_at};
 ghost use Rattle.tx_desc.specs.Descriptions.{end_for};
-ghost use Rattle.tx_shell.specs.Reasons.{child_text, open_by, pipe_line, pipe_lines, waited_text};
+ghost use Rattle.tx_shell.specs.Reasons.{open_by, pipe_line, pipe_lines, waited_text};
 ghost use Rattle.tx_shell.specs.declared.questions.kinds.Kind.TheVariants.{Pipes};
 
-use crate::questions::blockers::{names, put_name};
+use crate::questions::blockers::names;
 use crate::questions::holders::put_holders;
 use crate::questions::kinds::Kind;
 use std::alloc::AllocError;
+use std::fmt::Write;
 use tx_base::{Call, Step};
 use tx_desc::Side;
 use tx_journal::Session;
 use tx_json::Holder;
-use tx_lines::{put, put_number};
 use tx_reserve::Objects;
 
 /// Appends the line of what a step waits for: a child's end, a byte in a pipe, or room in one for all
@@ -41,7 +41,7 @@ pub fn put_waited(
         ++ waited_text (start_of session.now) (history_of (made_of session.now)) step.now) }
 {
     match step {
-        Step::Call(_, Call::Waitpid(child, _)) => put_child(text, *child),
+        Step::Call(_, Call::Waitpid(child, _)) => write!(text, "proc {child} has not ended\n"),
         Step::Call(_, Call::Read(..)) => {
             put_pipes(text, session, step, " has no byte\n")?;
             put_open(text, Side::Write, holders)
@@ -63,15 +63,6 @@ fn put_open(text: &mut String, side: Side, holders: &Option<Vec<Holder>>) -> Res
         Some(holders) => put_holders(text, side, holders.as_slice()),
         None => Ok(()),
     }
-}
-
-/// Appends that a child's end is waited for.
-fn put_child(text: &mut String, child: i64) -> Result<(), AllocError>
-    ensures { OnOk result (string_bytes text.new ≡ string_bytes text.old ++ child_text child) }
-{
-    put(text, "proc ")?;
-    put_number(text, child)?;
-    put(text, " has not ended\n")
 }
 
 /// Appends a line for each pipe that a step names, and why it waits for that.
@@ -105,6 +96,5 @@ fn put_pipe(
     if !names.has(Kind::Pipes.object(number)) {
         return Ok(());
     }
-    put_name(text, Kind::Pipes, number)?;
-    put(text, why)
+    write!(text, "{}{number}{why}", Kind::Pipes.word())
 }

@@ -5,7 +5,7 @@ ghost use Rattle.tx_json.specs.Each.{each_tokens};
 ghost use Rattle.tx_shell.specs.Blockers.{blocked_of};
 ghost use Rattle.tx_shell.specs.Members.{blocked_tokens, blockers_members, since_members};
 
-use crate::questions::blockers::{Blocker, put_name};
+use crate::questions::blockers::Blocker;
 use std::alloc::{AllocError, Global};
 use tx_journal::Touch;
 use tx_json::{LineWriter, begin_list, begin_object, end_list, end_object, put_count, put_word};
@@ -50,8 +50,7 @@ fn put_blocker(
 ) -> Result<(), AllocError>
     ensures { OnOk result (writer.new ≡ writer.old ++ blocked_tokens (blocked_of blocker.entry)) }
 {
-    let mut name = String::new(alloc);
-    put_name(&mut name, blocker.kind, blocker.number)?;
+    let name = format!(in alloc; "{}{}", blocker.kind.word(), blocker.number)?;
     begin_object(writer)?;
     put_word(writer, "object", name.as_str())?;
     put_count(writer, "holder", u64::from(blocker.owner.0))?;

@@ -1,7 +1,7 @@
 //! Tells as JSON which step changed a piece of the state last, or changes it next.
 ghost use Rattle.std.specs.Prelude.{◌≡◌, ◌≤◌, ◌++◌, IfSome, OnOk};
 ghost use Rattle.tx_journal.specs.Sessions.{position_of};
-ghost use Rattle.tx_shell.specs.Members.{change_member, last_member};
+ghost use Rattle.tx_shell.specs.Members.{change_member};
 ghost use Rattle.tx_shell.specs.Places.{place_of};
 
 use crate::answers::as_json::steps::put_made;
@@ -21,18 +21,10 @@ pub fn put_change(
     ensures { OnOk result
         (writer.new ≡ writer.old ++ change_member (place_of session.now) found.now) }
 {
-    match found {
-        Some(_change) => put_last(alloc, writer, session),
-        None => put_null(writer, "change"),
-    }
-}
-
-/// Appends the step directly before the position.
-fn put_last(alloc: Global, writer: &mut LineWriter, session: &Session) -> Result<(), AllocError>
-    requires { 1 ≤ position_of session.now }
-    ensures { OnOk result (writer.new ≡ writer.old ++ last_member (place_of session.now)) }
-{
     let position = session.position();
+    let Some(_change) = found else {
+        return put_null(writer, "change");
+    };
     let Some(entry) = session.entry(position) else {
         unreachable!()
     };

@@ -2,7 +2,7 @@
 ghost use Rattle.std.specs.Prelude.{◌≡◌, ◌++◌, ◌<◌, OnOk};
 ghost use Rattle.tx_live.specs.Content.{view_of};
 ghost use Rattle.tx_shell.specs.Kinds.{limit_of};
-ghost use Rattle.tx_shell.specs.Members.{listed_item, owned_member, owner_item, owner_member, owners_member, transaction_member};
+ghost use Rattle.tx_shell.specs.Members.{listed_item, owned_member, owner_item, owner_member, owners_member};
 ghost use Rattle.tx_shell.specs.Owners.{owns_one};
 
 use crate::questions::kinds::Kind;
@@ -11,23 +11,8 @@ use std::alloc::AllocError;
 use tx_base::Pid;
 use tx_core::Machine;
 use tx_json::{
-    LineWriter, begin_list, begin_object, end_list, end_object, put_count, put_count_item, put_null,
+    LineWriter, begin_list, begin_object, end_list, end_object, put_count, put_count_item,
 };
-
-/// Appends the starter of a transaction, or that there is none where nothing would differ without it.
-pub fn put_transaction(
-    writer: &mut LineWriter,
-    starter: u16,
-    differences: &Option<String>,
-) -> Result<(), AllocError>
-    ensures { OnOk result
-        (writer.new ≡ writer.old ++ transaction_member starter differences.now) }
-{
-    match differences {
-        Some(_lines) => put_count(writer, "transaction", u64::from(starter)),
-        None => put_null(writer, "transaction"),
-    }
-}
 
 /// Appends each live transaction, by rising starters.
 pub fn put_owners(writer: &mut LineWriter, machine: &Machine) -> Result<(), AllocError>

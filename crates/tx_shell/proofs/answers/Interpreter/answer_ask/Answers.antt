@@ -1,15 +1,19 @@
-use Rattle.std.proofs.Common.{◌∙◌, Bool, List, ap, string_bytes, subst}
+use Rattle.std.proofs.Common.{◌≡◌, ◌∙◌, Bool, List, ap, string_bytes, subst}
 use Rattle.tx_base.specs.declared.steps.Accepted.{Accepted}
 use Rattle.tx_journal.specs.Entries.{history_of}
-use Rattle.tx_journal.specs.Sessions.{position_of, start_of}
+use Rattle.tx_journal.specs.Sessions.{position_of, start_of, SameBoot, SessionState}
 use Rattle.tx_script.specs.Debug.{first_steps}
-use Rattle.tx_shell.proofs.Begun.{origin_stays}
 use Rattle.tx_shell.proofs.Listed.{history_to}
 use Rattle.tx_shell.specs.Answers.{left_by, IsAnswer}
 use Rattle.tx_shell.specs.Forms.{SaysAnswer}
 use Rattle.tx_shell.specs.Origins.{Origin}
 use Rattle.tx_shell.specs.Places.{origin_of, place_of}
+use Rattle.tx_shell.specs.declared.lines.versions.TextVersion.{TextVersion}
 use Rattle.tx_shell.proofs.answers.Interpreter.answer_ask.Goals as goal
+
+-- how the talk began is what its session keeps
+origin_stays : (version : TextVersion) (old new : SessionState) → SameBoot new old → origin_of version new ≡ origin_of version old
+origin_stays version old new boot = λ i. record { version = version; width = boot.width i; count = boot.count i }
 
 pub returns-clause-answer : goal.returns-clause-answer
 returns-clause-answer c =

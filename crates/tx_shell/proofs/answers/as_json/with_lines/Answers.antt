@@ -1,4 +1,5 @@
 use Rattle.std.proofs.Common.{◌++◌, ◌∙◌, List, ℕ, ap, string_bytes, subst, sym}
+use Rattle.std.proofs.lemmas.Result.{IfOk-weaker}
 use Rattle.json.specs.Token.{Token}
 use Rattle.tx_journal.specs.Entries.{history_of}
 use Rattle.tx_journal.specs.Sessions.{made_of, start_of}
@@ -6,7 +7,6 @@ use Rattle.tx_json.specs.Answers.{lines_with}
 use Rattle.tx_json.specs.Line.{IsLineOf}
 use Rattle.tx_json.specs.Members.{end_object}
 use Rattle.tx_shell.proofs.Jsons.{said_with}
-use Rattle.tx_shell.proofs.Results.{on_ok}
 use Rattle.tx_shell.specs.Places.{origin_of, place_of}
 use Rattle.tx_shell.specs.Forms.{answer_members, SaysLines, TellsAnswer}
 use Rattle.tx_shell.proofs.answers.as_json.with_lines.Goals as goal
@@ -19,7 +19,7 @@ returns c =
     let told = c.as_str.result.now in
     let members = answer_members (start_of k) h (place_of k) answer in
     let written = c.put_members.new.writer in
-    on_ok c.end_answer.result (λ text. IsLineOf (written ++ end_object) (string_bytes text)) (λ text. SaysLines (origin_of c.args.version k) h (place_of k) answer (string_bytes text))
+    IfOk-weaker c.end_answer.result (λ text. IsLineOf (written ++ end_object) (string_bytes text)) (λ text. SaysLines (origin_of c.args.version k) h (place_of k) answer (string_bytes text))
     (λ text line. record {
       told = told;
       tells = subst (λ (lines : List ℕ). TellsAnswer (origin_of c.args.version k) h (place_of k) answer lines) (sym c.as_str.ensures.value) c.in_ok-told.ensures;

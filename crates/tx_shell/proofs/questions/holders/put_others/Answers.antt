@@ -9,7 +9,7 @@ use Rattle.tx_shell.proofs.questions.holders.put_others.Goals as goal
 pub loop-i-preserved : goal.loop-i-preserved
 loop-i-preserved c =
     let inside : c.loop-i.i < length c.args.others.now = search rules in
-    each_more next_text c.args.others.now c.loop-i.i _ (string_bytes c.args.text.now) (string_bytes c.loop-i.text) (string_bytes c.put_next.new.text) inside c.loop-i.invariant c.in_ok-put_next.ensures
+    each_more next_text c.args.others.now c.loop-i.i _ (string_bytes c.args.text.now) (string_bytes c.loop-i.text) (string_bytes c.write.new.self) inside c.loop-i.invariant c.in_ok-write.ensures.bytes
 
 pub returns : goal.returns
 returns c =

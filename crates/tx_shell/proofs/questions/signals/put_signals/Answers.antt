@@ -1,6 +1,6 @@
 use Rattle.std.proofs.Common.{string_bytes}
 use Rattle.tx_text.specs.EachLaws.{upto_more, upto_none}
-use Rattle.tx_shell.specs.Signals.{signal_line}
+use Rattle.tx_shell.specs.Reasons.{signal_line}
 use Rattle.tx_journal.specs.Entries.{history_of}
 use Rattle.tx_journal.specs.Sessions.{made_of, start_of}
 use Rattle.tx_shell.proofs.questions.signals.put_signals.Goals as goal

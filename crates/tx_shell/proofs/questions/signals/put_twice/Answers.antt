@@ -1,17 +1,24 @@
-use Rattle.std.proofs.Common.{rules, ◌++◌, FitsSigned, string_bytes, w64, ◌∙◌}
+use Rattle.std.proofs.Common.{rules, ◌≡◌, ◌++◌, List, ℕ, ℤ, FitsSigned, codes, string_bytes, w64, ◌∙◌, ap, append_assoc}
 use Rattle.std.proofs.lemmas.Int.{to_z-of_z}
 use Rattle.std.proofs.lemmas.Result.{on_ok_weaker}
-use Rattle.tx_shell.proofs.Chained.{three_put}
-use Rattle.tx_shell.specs.Signals.{answers_text, if_aborted, sent_text}
+use Rattle.std.specs.Fmt.{decimal}
+use Rattle.tx_shell.specs.Reasons.{named_text}
 use Rattle.tx_shell.proofs.questions.signals.put_twice.Goals as goal
+
+five_put : (old one two three four five a b c d e : List ℕ) → one ≡ old ++ a → two ≡ one ++ b → three ≡ two ++ c → four ≡ three ++ d → five ≡ four ++ e → five ≡ old ++ (a ++ (b ++ (c ++ (d ++ e))))
+five_put old one two three four five a b c d e first second third fourth fifth = search (rules, append_assoc)
 
 pub returns : goal.returns
 returns c =
-    let present : FitsSigned w64 c.args.answers.present = search rules in
-    let after_abort : FitsSigned w64 c.args.answers.after_abort = search rules in
-    on_ok_weaker c.put_if_aborted.result
-    (λ put. three_put (string_bytes c.args.text.now) (string_bytes c.put_sent.new.text) (string_bytes c.put_answers.new.text) (string_bytes c.put_if_aborted.new.text)
-    (sent_text c.args.answers.signo.0 c.args.starter.0) (answers_text c.args.answers.present c.args.answers.after_abort) (if_aborted c.args.starter.0)
-    c.in_ok-put_sent.ensures
-    (c.in_ok-put_answers.ensures
-    ∙ (λ j. string_bytes c.put_sent.new.text ++ answers_text (to_z-of_z w64 c.args.answers.present present j) (to_z-of_z w64 c.args.answers.after_abort after_abort j))) put) c.put_if_aborted.ensures
+    let answers = c.args.answers in
+    let s = c.args.starter.0 in
+    let present : FitsSigned w64 answers.present = search rules in
+    let after : FitsSigned w64 answers.after_abort = search rules in
+    let one = string_bytes c.write.new.self in
+    let three = string_bytes c.put.new.text in
+    on_ok_weaker c.write-2.result
+    (λ put. five_put (string_bytes c.args.text.now) one (string_bytes c.put_named.new.text) three (string_bytes c.put_named-2.new.text) (string_bytes c.write-2.new.self)
+    (codes "signal " ++ (decimal answers.signo.0 ++ (codes " to " ++ (decimal s ++ codes ": it would be answered ")))) (named_text answers.present) (codes " now, and ") (named_text answers.after_abort)
+    (codes " if the transaction of " ++ (decimal s ++ codes " were aborted\n")) c.in_ok-write.ensures.bytes
+    (c.in_ok-put_named.ensures ∙ ap (λ (z : ℤ). one ++ named_text z) (to_z-of_z w64 answers.present present)) c.in_ok-put.ensures
+    (c.in_ok-put_named-2.ensures ∙ ap (λ (z : ℤ). three ++ named_text z) (to_z-of_z w64 answers.after_abort after)) put) c.write-2.ensures.bytes
