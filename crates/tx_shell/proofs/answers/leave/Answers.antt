@@ -4,7 +4,7 @@ use Rattle.tx_journal.specs.Sessions.{position_of}
 use Rattle.tx_script.specs.Debug.{first_steps}
 use Rattle.tx_shell.proofs.Listed.{history_to}
 use Rattle.tx_shell.specs.Answers.{left_by}
-use Rattle.tx_shell.specs.Places.{place_of, Place}
+use Rattle.tx_shell.specs.Places.{place_of}
 use Rattle.tx_shell.proofs.answers.leave.Goals as goal
 
 pub returns-clause-place : goal.returns-clause-place
