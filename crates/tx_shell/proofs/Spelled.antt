@@ -14,8 +14,7 @@ use Rattle.tx_lines.specs.declared.read.header.Version.TheVariants as versions
 use Rattle.tx_model.specs.Schedules.{history_with}
 use Rattle.tx_model.specs.State.{State}
 use Rattle.tx_script.specs.Debug.{first_steps}
-use Rattle.tx_shell.specs.Answers.{left_by, AnswersAskIn, AnswersStep, AnswersWords}
-use Rattle.tx_shell.specs.Asks.{lets_go}
+use Rattle.tx_shell.specs.Answers.{left_by, lets_go, AnswersAskIn, AnswersStep, AnswersWords}
 use Rattle.tx_shell.specs.Events.{End, Failure, Line, Talks, Text}
 use Rattle.tx_shell.specs.Origins.{version_of, grammar_of, Origin}
 use Rattle.tx_shell.specs.Places.{Place}

@@ -1,33 +1,89 @@
--- What a line is answered, and where the session stands then, also where memory was refused.
-use Rattle.std.specs.Prelude.{◌≡◌, ◌≢◌, ◌⊎◌, ◌<◌, ℕ, ◌&&◌, Bool, List, ◌∷◌, Option, None, Some, IsTrue, if◌then◌else◌, length, nat_eq, option_map, string_bytes}
+-- What a session is asked for by lines that are no steps, how that is spelled, and what the lines are answered, which moves the session.
+use Rattle.std.specs.Fmt.{decimal}
+use Rattle.std.specs.Prelude.{◌≢◌, ℕ, ◌<◌, ◌^◌, Bool, List, ◌∷◌, ◌++◌, codes, false, true, ◌≡◌, ◌⊎◌, ◌&&◌, Option, None, Some, IsTrue, if◌then◌else◌, length, nat_eq, option_map, string_bytes}
 use Rattle.tx_base.specs.declared.steps.Accepted.{Accepted}
 use Rattle.tx_base.specs.declared.steps.Reply.{Reply}
 use Rattle.tx_base.specs.declared.steps.Step.{Step}
 use Rattle.tx_explain.specs.Topics.{is_page}
 use Rattle.tx_journal.specs.Sessions.{IsBetween}
 use Rattle.tx_journal.specs.Trials.{view_with}
-use Rattle.tx_lines.specs.Lines.{FitsStep, IsOf, step_text}
+use Rattle.tx_lines.specs.Lines.{step_text, FitsStep, IsOf}
 use Rattle.tx_lines.specs.Schedule.{IsNoStep}
-use Rattle.tx_lines.specs.declared.read.command.Command.{Command}
+use Rattle.tx_lines.specs.Walks.{command_text, FitsCommand}
 use Rattle.tx_lines.specs.declared.read.command.Command.TheVariants as commands
+use Rattle.tx_lines.specs.declared.read.command.Command.{Command}
+use Rattle.tx_lines.specs.declared.read.header.Version.{Version}
 use Rattle.tx_model.specs.Answer.{answer}
 use Rattle.tx_model.specs.Schedules.{history_with}
 use Rattle.tx_model.specs.State.{State}
 use Rattle.tx_model.specs.View.{view}
 use Rattle.tx_script.specs.Debug.{command_answer, first_steps, position_after}
-use Rattle.tx_shell.specs.Asks.{ask_text, lets_go, FitsAsk, IsNoAsk}
 use Rattle.tx_shell.specs.Changes.{shown_at, FindsLast, FindsNext}
 use Rattle.tx_shell.specs.Differences.{differing_without, views_differing}
 use Rattle.tx_shell.specs.Forms.{SaysAhead, SaysAnswer, SaysReply, TellsIn}
-use Rattle.tx_shell.specs.Reasons.{HelpsOn}
 use Rattle.tx_shell.specs.Origins.{start_in, grammar_of, Origin}
+use Rattle.tx_shell.specs.Pieces.{piece_name, FitsPiece}
 use Rattle.tx_shell.specs.Places.{Place}
-use Rattle.tx_shell.specs.declared.answers.answer.Answer.{Answer}
+use Rattle.tx_shell.specs.Reasons.{HelpsOn}
 use Rattle.tx_shell.specs.declared.answers.answer.Answer.TheVariants as answers
+use Rattle.tx_shell.specs.declared.answers.answer.Answer.{Answer}
 use Rattle.tx_shell.specs.declared.answers.forms.Form.{Form}
-use Rattle.tx_shell.specs.declared.lines.asks.Ask.{Ask}
 use Rattle.tx_shell.specs.declared.lines.asks.Ask.TheVariants as asks
+use Rattle.tx_shell.specs.declared.lines.asks.Ask.{Ask}
 use Rattle.tx_shell.specs.declared.questions.changes.Change.{Change}
+
+-- the spelling, without the line's end
+abbrev pub ask_text : Ask → List ℕ
+ask_text (asks.Walk command) = command_text command
+ask_text asks.GotoEnd = codes "goto end"
+ask_text asks.Steps = codes "steps"
+ask_text (asks.StepsFrom first) = codes "steps " ++ decimal first
+ask_text (asks.StepsBetween first last) = codes "steps " ++ (decimal first ++ 32 ∷ decimal last)
+ask_text asks.Text = codes "text"
+ask_text (asks.Try step) = codes "try " ++ step_text step
+ask_text (asks.When piece) = codes "when " ++ piece_name piece
+ask_text (asks.Next piece) = codes "next " ++ piece_name piece
+ask_text (asks.Without starter) = codes "without " ++ decimal starter
+ask_text (asks.Why step) = codes "why " ++ step_text step
+ask_text asks.WhyRefused = codes "why"
+ask_text asks.Owns = codes "owns"
+ask_text (asks.OwnsOf starter) = codes "owns " ++ decimal starter
+ask_text asks.Cut = codes "cut"
+ask_text asks.Help = codes "help"
+ask_text (asks.HelpOn word) = codes "help " ++ word.now
+
+-- it is one of that version, and its numbers ones that a line can hold
+abbrev pub FitsAsk : Version → Ask → Type 0
+FitsAsk version (asks.Walk command) = FitsCommand version command
+FitsAsk version (asks.StepsFrom first) = first < 2 ^ 63
+FitsAsk version (asks.StepsBetween first last) = (first < 2 ^ 63) × (last < 2 ^ 63)
+FitsAsk version (asks.Try step) = FitsStep step × IsOf version step
+FitsAsk version (asks.When piece) = FitsPiece piece
+FitsAsk version (asks.Next piece) = FitsPiece piece
+FitsAsk version (asks.Without starter) = starter < 2 ^ 16
+FitsAsk version (asks.Why step) = FitsStep step × IsOf version step
+FitsAsk version (asks.OwnsOf starter) = starter < 2 ^ 16
+FitsAsk version ask = Unit {0}
+
+-- nothing is asked for by a line that is spelled so
+abbrev pub IsNoAsk : Version → List ℕ → Type 0
+IsNoAsk version line = (ask : Ask) → FitsAsk version ask → line ≢ ask_text ask
+
+-- it is one of those that are a word or two, and have no number
+abbrev pub IsOfWords : Ask → Type 0
+IsOfWords asks.GotoEnd = Unit {0}
+IsOfWords asks.Steps = Unit {0}
+IsOfWords asks.Text = Unit {0}
+IsOfWords asks.WhyRefused = Unit {0}
+IsOfWords asks.Owns = Unit {0}
+IsOfWords asks.Cut = Unit {0}
+IsOfWords asks.Help = Unit {0}
+IsOfWords ask = ⊥
+
+-- steps are to be let go of
+abbrev pub lets_go : Ask → Bool
+lets_go asks.Cut = true
+lets_go ask = false
 
 -- at the end a step is made: its reply is told, and it is recorded where it was accepted
 pub record MakesStep (form : Form) (start : State) (p : Place) (step : Step) (text : List ℕ) (q : Place) : Type 0 where

@@ -1,5 +1,4 @@
 pub mod Answers
-pub mod Asks
 pub mod Blockers
 pub mod Changes
 pub mod Cuts

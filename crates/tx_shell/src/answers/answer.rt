@@ -10,13 +10,14 @@ ghost use Rattle.tx_shell.specs.Forms.{IsPlaced};
 ghost use Rattle.tx_shell.specs.declared.answers.answer.Answer.TheVariants as answers;
 
 use crate::answers::count_steps;
-use crate::answers::helps::{help_page, meaning};
+use crate::answers::helps::meaning;
 use crate::answers::reserving::reserve_walk;
 use crate::lines::asks::Ask;
 use crate::questions::changes::{Change, find_last, find_next};
 use crate::questions::trials::{try_at, without};
 use std::alloc::Global;
 use tx_base::{NoMemory, Reply, Step};
+use tx_explain::session_page;
 use tx_journal::Session;
 use tx_lines::Command;
 use tx_script::put_answer;
@@ -91,7 +92,7 @@ pub fn find_answer(
         Ask::Owns => Ok(Answer::Owners),
         Ask::OwnsOf(starter) => Ok(Answer::OwnersOf(starter)),
         Ask::Cut => Ok(Answer::Position),
-        Ask::Help => Ok(Answer::Page(help_page())),
+        Ask::Help => Ok(Answer::Page(session_page())),
         Ask::HelpOn(word) => Ok(Answer::Page(meaning(word))),
     }
 }

@@ -3,7 +3,7 @@ ghost use Rattle.std.specs.Prelude.{◌≡◌, ◌≢◌, ◌<◌, ◌^◌, ◌+
 ghost use Rattle.std.specs.Fmt.{decimal};
 ghost use Rattle.tx_lines.specs.Schedule.{IsNoStep};
 ghost use Rattle.tx_lines.specs.declared.read.header.Version.{Version as TheVersion};
-ghost use Rattle.tx_shell.specs.Asks.{ask_text, lets_go, FitsAsk, IsNoAsk, IsOfWords};
+ghost use Rattle.tx_shell.specs.Answers.{ask_text, lets_go, FitsAsk, IsNoAsk, IsOfWords};
 ghost use Rattle.tx_shell.specs.Pieces.{IsNoPiece};
 ghost use Rattle.tx_shell.specs.declared.lines.asks.Ask.{Ask};
 
