@@ -1,5 +1,5 @@
 use Rattle.std.proofs.Common.{refl}
-use Rattle.tx_shell.proofs.answers.helps.help_page.Goals as goal
+use Rattle.tx_explain.proofs.topics.shell.session_page.Goals as goal
 
 pub returns : goal.returns
 returns c = refl
