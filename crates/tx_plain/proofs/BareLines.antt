@@ -1,5 +1,5 @@
 -- Lines of words of the alphabet of version 2, with a space between each two: their words are these.
-use Rattle.std.proofs.Common.{◌≡◌, ℕ, ◌<◌, List, [], ◌∷◌, ◌++◌, refl, ap, sym, ◌∙◌, arith}
+use Rattle.std.proofs.Common.{◌≡◌, ℕ, ◌<◌, List, [], ◌∷◌, ◌++◌, append_assoc, refl, ap, sym, ◌∙◌, arith}
 use Rattle.std.proofs.lemmas.Bool.{ne_eqb}
 use Rattle.std.proofs.lemmas.List.{append-nil}
 use Rattle.tx_lines.specs.Schedule.{first_line}
@@ -47,6 +47,26 @@ pub words_spaced : (word : List ℕ) (words : List (List ℕ)) → IsBare word �
 words_spaced word [] bare others = first_spaced word [] bare
 words_spaced word (next ∷ words) bare others =
     first_spaced word (next ∷ words) bare ∙ ap (λ (ws : List (List ℕ)). word ∷ ws) (words_spaced next words others.0 others.1)
+
+-- words, and what follows behind one space more
+before_space : (bytes rest : List ℕ) → AreWithin 35 128 bytes → word_from InWord (bytes ++ 32 ∷ rest) ≡ bytes
+before_space [] rest are = refl
+before_space (byte ∷ bytes) rest are = rw (within_word byte are.0) (ap (λ (t : List ℕ). byte ∷ t) (before_space bytes rest are.2))
+
+first_before : (word rest : List ℕ) → IsBare word → words_in (word ++ 32 ∷ rest) ≡ word ∷ words_in rest
+first_before [] rest bare = absurd (omega (arith, bare.some))
+first_before (byte ∷ bytes) rest bare =
+    rw (after_bare byte bare.within.0)
+    (ap (λ (w : List ℕ). (byte ∷ w) ∷ words_from InWord (bytes ++ 32 ∷ rest)) (before_space bytes rest bare.within.2)
+    ∙ ap (λ (ws : List (List ℕ)). (byte ∷ bytes) ∷ ws) (words_behind bytes (32 ∷ rest) bare.within.2))
+
+pub words_before : (word : List ℕ) (words : List (List ℕ)) (rest : List ℕ) → IsBare word → AllBare words →
+    words_in (word ++ (spaced words ++ 32 ∷ rest)) ≡ word ∷ (words ++ words_in rest)
+words_before word [] rest bare others = first_before word rest bare
+words_before word (next ∷ words) rest bare others =
+    ap (λ (t : List ℕ). words_in (word ++ 32 ∷ t)) (append_assoc next (spaced words) (32 ∷ rest))
+    ∙ first_before word (next ++ (spaced words ++ 32 ∷ rest)) bare
+    ∙ ap (λ (ws : List (List ℕ)). word ∷ ws) (words_before next words rest others.0 others.1)
 
 pub joined_spaced : (word : List ℕ) (words : List (List ℕ)) → joined word words ≡ word ++ spaced words
 joined_spaced word [] = sym (append-nil word)

@@ -1,27 +1,19 @@
 -- The lines of a text mean steps, commands or lines of a program, one after another.
 use Rattle.std.proofs.Common.{◌≡◌, ◌∙◌, ℕ, ◌+◌, ◌≤◌, true, List, [], ◌∷◌, ◌++◌, Option, Some, None, is_some, length, refl, sym, ap, append_assoc, arith}
-use Rattle.std.proofs.lemmas.List.{append-nil}
 use Rattle.std.specs.List.{IsDistinct}
 use Rattle.std.specs.Map.{keys_of}
-use Rattle.tx_base.specs.declared.steps.Step.{Step}
 use Rattle.tx_lines.proofs.Growing.{all_more, text_more}
 use Rattle.tx_lines.proofs.LineEnds.{line_parts}
 use Rattle.tx_lines.proofs.ProgramParts.{counts}
-use Rattle.tx_lines.specs.Lines.{header_text, step_text, FitsHeader}
+use Rattle.tx_lines.specs.Lines.{header_text, FitsHeader}
 use Rattle.tx_lines.specs.Programs.{labels_of, line_text, same_name, AreLines, IsLineOf}
-use Rattle.tx_lines.specs.Schedule.{after_line, lines_of, steps_text, Adds, AreSteps, SpellsHeader}
-use Rattle.tx_lines.specs.Walks.{command_text, debug_line, walk_text, AreCommands, IsWalk}
+use Rattle.tx_lines.specs.Schedule.{after_line, Adds, SpellsHeader}
 use Rattle.tx_lines.specs.declared.instructions.Line.{Line}
-use Rattle.tx_lines.specs.declared.read.command.Command.{Command}
 use Rattle.tx_lines.specs.declared.read.header.Header.{Header}
 use Rattle.tx_lines.specs.declared.read.header.TextKind.{TextKind}
-use Rattle.tx_lines.specs.declared.read.header.TextKind.TheVariants as kinds
 use Rattle.tx_lines.specs.declared.read.header.Version.{Version}
-use Rattle.tx_lines.specs.declared.read.schedule.Schedule.{Schedule}
-use Rattle.tx_plain.specs.FirstLines.{BeginsWith, IsBefore}
-use Rattle.tx_plain.specs.Meant.{meant_of}
+use Rattle.tx_plain.specs.FirstLines.{IsBefore}
 use Rattle.tx_plain.specs.MeantLines.{behind, behind_by, line_of, IsNextLine}
-use Rattle.tx_plain.specs.MeantSchedules.{MeansSchedule}
 use Rattle.tx_plain.specs.declared.meant_lines.OwnLine.{OwnLine}
 
 some_after : (after : Option (List ℕ)) → true ≡ is_some after → after ≡ Some (behind_by after)

@@ -7,7 +7,6 @@ pub mod Bytes
 pub mod FirstLines
 pub mod NextMeant
 pub mod NoEnds
-pub mod Rooms
 pub mod SetTexts
 pub mod BareLines
 pub mod Unnamed
@@ -17,5 +16,6 @@ pub mod StayingWords
 pub mod StayingLines
 pub mod StayingSteps
 pub mod StayingPrograms
+pub mod RespelledLines
 pub mod PlacedWords
 pub mod Translated

@@ -53,16 +53,18 @@ short_line : (long : Bool) (line : List ℕ) → cond long (Some line) (Some lin
 short_line true line = refl
 short_line false line = refl
 
+pub words_mean : (kind : TextKind) (line : List ℕ) → StaysIn kind line → plain_of_words (Within kind) (words_in line) ≡ Some line
+words_mean kind line stays =
+    ap (plain_of_words (Within kind)) (ap words_in stays.spelled ∙ words_spaced stays.first stays.others stays.first_bare stays.others_bare)
+    ∙ ap (λ (others : List (List ℕ)). Some (stays.first ++ spaced others)) stays.stay
+    ∙ ap Some (sym stays.spelled)
+
 -- such a line means itself
 pub line_means : (kind : TextKind) (line : List ℕ) → StaysIn kind line → plain_line (Within kind) line ≡ Some line
 line_means kind line stays =
     elim (two_ways (nat_lt 512 (length line))) [
       | inl h ↦ rw h refl
-      | inr h ↦ let words : words_in line ≡ stays.first ∷ stays.others = ap words_in stays.spelled ∙ words_spaced stays.first stays.others stays.first_bare stays.others_bare in
-          let plain : plain_of_words (Within kind) (words_in line) ≡ Some line = ap (plain_of_words (Within kind)) words
-          ∙ ap (λ (others : List (List ℕ)). Some (stays.first ++ spaced others)) stays.stay
-          ∙ ap Some (sym stays.spelled) in
-          rw h (ap (short_or line) plain ∙ short_line (nat_lt 512 (length line)) line)
+      | inr h ↦ rw h (ap (short_or line) (words_mean kind line stays) ∙ short_line (nat_lt 512 (length line)) line)
     ]
 
 -- the lines of a text of such lines are these

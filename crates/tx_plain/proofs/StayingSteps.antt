@@ -22,7 +22,7 @@ use Rattle.tx_plain.proofs.StayingLines.{all_stay, ended_by, line_means, lines_m
 use Rattle.tx_plain.proofs.StayingWords.{call_bare, call_stays}
 use Rattle.tx_plain.proofs.Unnamed.{low_signal}
 
-pub step_stays : (step : Step) → FitsStep step → StaysIn Schedule (step_text step)
+unfoldable pub step_stays : (step : Step) → FitsStep step → StaysIn Schedule (step_text step)
 step_stays (steps.Call pid call) fits =
     let words = map word_of (arguments_of call) in
     let are = call_bare call fits.1 in

@@ -9,7 +9,7 @@ use Rattle.tx_plain.specs.declared.reading.Reading.TheVariants.{Between, InWord,
 use Rattle.tx_plain.proofs.Tests.{two_ways}
 
 -- a comment has no word
-comment_words : (bytes : List ℕ) → words_from InComment bytes ≡ []
+pub comment_words : (bytes : List ℕ) → words_from InComment bytes ≡ []
 comment_words [] = refl
 comment_words (byte ∷ bytes) = comment_words bytes
 

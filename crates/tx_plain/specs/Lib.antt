@@ -4,6 +4,7 @@ pub mod SignalNames
 pub mod Sets
 pub mod Strings
 pub mod ByteWords
+pub mod Respelled
 pub mod Roles
 pub mod Rooms
 pub mod Lines

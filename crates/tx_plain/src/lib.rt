@@ -23,6 +23,7 @@ mod plain;
 mod plain_lines;
 mod programs;
 mod reading;
+mod respelled;
 mod roles;
 mod room;
 mod schedules;

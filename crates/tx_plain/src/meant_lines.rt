@@ -16,6 +16,7 @@ ghost use Rattle.tx_plain.specs.declared.stage.Stage.{Stage};
 use crate::lines::split_line;
 use crate::plain::is_third;
 use crate::plain_lines::{line_meaning, stage_after};
+use crate::respelled::read_respelled;
 use crate::room::Room;
 use crate::spellings::is;
 use crate::stage::Stage;
@@ -213,6 +214,20 @@ impl<'a> OwnLine<'a> {
         if self.may_be_step()
             && !is_told_otherwise(self.bytes)
             && read_step_into(version, self.bytes, step)
+        {
+            return true;
+        }
+        self.read_told_otherwise(version, room, step)
+    }
+
+    /// The same where the line does not spell the step itself.
+    #[inline(never)] // inlined, a line that does pays for it
+    fn read_told_otherwise(self, version: Version, room: &mut Room, step: &mut Step) -> bool
+        ensures found { IfSome (then_some result step.new) (λ s. line_of self.entry ≡ step_text s) }
+        ensures fits { IfSome (then_some result step.new) (FitsStepOf version) }
+    {
+        if let Some(Stage::Within(TextKind::Schedule)) = self.stage
+            && read_respelled(version, self.bytes, room, step)
         {
             return true;
         }

@@ -4,6 +4,7 @@ ghost use Rattle.tx_plain.specs.Lines.{kind_of, line_of_words, plain_arguments, 
 ghost use Rattle.tx_plain.specs.Roles.{plain_word};
 ghost use Rattle.tx_plain.specs.Rooms.{IsOver};
 ghost use Rattle.tx_plain.specs.Words.{words_in};
+ghost use Rattle.tx_plain.specs.declared.stage.Stage.TheVariants.{Heading};
 
 use crate::arguments::put_argument;
 use crate::roles::{Role, role_of};
@@ -31,12 +32,20 @@ pub fn line_meaning<'a>(room: &'a mut Room, stage: Stage, line: &'a [u8]) -> Opt
 }
 
 /// Where a text stands after a line.
+#[inline(always)] // behind its header a text stays where it stands
 pub fn stage_after(stage: Stage, line: &[u8]) -> Stage
     ensures { result ≡ stage_after stage (words_in line.now) }
 {
-    if let Stage::Within(kind) = stage {
-        return Stage::Within(kind);
+    match stage {
+        Stage::Within(kind) => Stage::Within(kind),
+        Stage::Heading => stage_after_heading(line),
     }
+}
+
+/// Where a text stands after a line before which none has a word.
+fn stage_after_heading(line: &[u8]) -> Stage
+    ensures { result ≡ stage_after Heading (words_in line.now) }
+{
     match split_word(line) {
         Some((_, others)) => Stage::Within(kind_of(others)),
         None => Stage::Heading,

@@ -1,5 +1,6 @@
 //! Reads the bytes that a string means.
 ghost use Rattle.std.specs.Prelude.{◌≡◌, ◌≢◌, ◌<◌, None, Some, IfSome, MatchOption, length, option_map, slice_index, false};
+ghost use Rattle.hex.specs.Hex.{IsBytes};
 ghost use Rattle.tx_plain.specs.Strings.{after_first, escape_of, meant, meant_from};
 
 use arrayvec::ArrayVec;
@@ -7,7 +8,9 @@ use arrayvec::ArrayVec;
 /// The bytes that a string means after its first `"`, 1 to 64. Nothing where it has no end, another
 /// escape, more behind its end, or another number of bytes.
 pub fn meant(string: &[u8]) -> Option<ArrayVec<u8, 64>>
-    ensures { option_map (λ r. r.items) result ≡ meant string.now }
+    ensures meant { option_map (λ r. r.items) result ≡ meant string.now }
+    ensures some { IfSome result (λ r. 0 < length r.items) }
+    ensures fits { IfSome result (λ r. IsBytes r.items) }
 {
     let mut bytes = ArrayVec::new();
     let mut left = string;

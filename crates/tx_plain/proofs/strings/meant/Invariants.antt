@@ -1,4 +1,5 @@
 use Rattle.std.proofs.Common.{◌≡◌, ◌≤◌, false, length}
+use Rattle.hex.specs.Hex.{IsBytes}
 use Rattle.tx_plain.specs.Strings.{meant_from}
 use Rattle.tx_plain.proofs.StringParts.{behind}
 use Rattle.tx_plain.proofs.strings.meant.Given as goal
@@ -7,6 +8,7 @@ abbrev pub invariant-loop-first : goal.invariant-loop-first
 invariant-loop-first l = record {
   so_far : meant_from false l.string ≡ behind l.bytes.items (meant_from false l.left);
   few : length l.bytes.items ≤ 64;
+  are : IsBytes l.bytes.items;
 }
 
 abbrev pub decreases-loop-first : goal.decreases-loop-first
