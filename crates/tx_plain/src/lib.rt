@@ -9,7 +9,8 @@
 //! is known which line of the person's it comes from. A text of version 2 means itself, but for its
 //! header (`laws.rt`). A line that comes alone means what it means behind the header of a schedule
 //! (`single.rt`). Schedules, with commands or without, and programs are read line by line
-//! (`meant_lines.rt`, `first_lines.rt`, `texts.rt`, `schedules.rt`, `walks.rt`, `programs.rt`).
+//! (`meant_lines.rt`, `first_lines.rt`, `texts.rt`, `schedules.rt`, `walks.rt`, `programs.rt`); a step
+//! that is spelled nearly as in version 2 is read without the whole line of that (`respelled.rt`).
 
 mod arguments;
 mod byte_words;

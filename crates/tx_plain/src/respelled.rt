@@ -1,5 +1,5 @@
-//! Reads a step that version 3 spells nearly as version 2 does, without its whole meaning: blanks stand
-//! otherwise, or only the last word is told otherwise.
+//! Reads a step that version 3 spells nearly as version 2 does, without translating each word: other
+//! blanks part its words, or only the last word is a string or the name of a signal.
 ghost use Rattle.std.specs.Prelude.{◌≡◌, ◌≢◌, ◌≤◌, ◌++◌, ◌∷◌, [], ℕ, List, IfSome, IsTrue, MatchOption, OnOk, Some, codes, false, length, option_map};
 ghost use Rattle.std.specs.Bool.{then_some};
 ghost use Rattle.hex.specs.Hex.{encode_lower};
@@ -26,7 +26,7 @@ use tx_lines::{LINE_BYTES, Version, read_step_into};
 const LAST: &[u8] = b"10";
 
 /// Reads the step that a line of a schedule means, and puts it where it is to stand, where the line is
-/// seen to be spelled so. Answers whether it is.
+/// spelled so. Answers whether it is.
 pub fn read_respelled(version: Version, line: &[u8], room: &mut Room, step: &mut Step) -> bool
     ensures found { IfSome (then_some result step.new) (λ s.
         plain_line (Within Schedule) line.now ≡ Some (step_text s)) }
@@ -51,8 +51,7 @@ pub fn read_respelled(version: Version, line: &[u8], room: &mut Room, step: &mut
     }
 }
 
-/// The same where the word that begins at that byte is a string or the name of a signal, and is the
-/// last.
+/// The same where the word that begins at that byte is the last, and a string or the name of a signal.
 fn read_told_last(
     version: Version,
     line: &[u8],
@@ -95,8 +94,8 @@ fn put_last(step: &mut Step, word: &[u8]) -> bool
     }
 }
 
-/// Whether the last word of a step that is read here may follow: a number and a space are before it, or
-/// the name of a delivery.
+/// Whether a front may be that of a store, a kill or a delivery: it ends with a number or with
+/// `deliver`, and a space.
 fn may_be_front(front: &[u8]) -> bool
     ensures space { IsTrue result → (words : List ℕ) × (front.now ≡ words ++ 32 ∷ []) }
     ensures short { IsTrue result → length front.now ≤ 384 }
@@ -158,7 +157,7 @@ fn string_bytes(word: &[u8]) -> Option<ArrayVec<u8, 64>>
     Some(bytes)
 }
 
-/// The same where only blanks stand otherwise, and a comment.
+/// The same where other blanks part the words, or a comment follows them.
 fn read_squeezed(version: Version, line: &[u8], room: &mut Room, step: &mut Step) -> bool
     requires { length line.now ≤ 512 }
     ensures found { IfSome (then_some result step.new) (λ s.
