@@ -1,5 +1,5 @@
-//! Reads a step that version 3 spells nearly as version 2 does, without translating each word: other
-//! blanks part its words, or only the last word is a string or the name of a signal.
+//! Reads a step that version 3 spells nearly as version 2 does, without translating each word: two
+//! spaces follow its first word, or only its last word is a string or the name of a signal.
 ghost use Rattle.std.specs.Prelude.{◌≡◌, ◌≢◌, ◌≤◌, ◌++◌, ◌∷◌, [], ℕ, List, IfSome, IsTrue, MatchOption, OnOk, Some, codes, false, length, option_map};
 ghost use Rattle.std.specs.Bool.{then_some};
 ghost use Rattle.hex.specs.Hex.{encode_lower};
@@ -47,7 +47,7 @@ pub fn read_respelled(version: Version, line: &[u8], room: &mut Room, step: &mut
                 None => false,
             }
         }
-        _ => line.contains(&b'#') && read_squeezed(version, line, room, step),
+        _ => false,
     }
 }
 
@@ -157,7 +157,7 @@ fn string_bytes(word: &[u8]) -> Option<ArrayVec<u8, 64>>
     Some(bytes)
 }
 
-/// The same where other blanks part the words, or a comment follows them.
+/// The same where only other blanks part the words.
 fn read_squeezed(version: Version, line: &[u8], room: &mut Room, step: &mut Step) -> bool
     requires { length line.now ≤ 512 }
     ensures found { IfSome (then_some result step.new) (λ s.
