@@ -1,5 +1,5 @@
 -- Which of some names is nearest to a word.
-use Rattle.std.specs.Prelude.{◌≡◌, ◌⊎◌, ℕ, ◌+◌, ◌<◌, ◌≤◌, ◌/◌, List, [], ◌∷◌, ◌++◌, length, map, take, drop, nat_eq, Option, Some, None, option_map, if◌then◌else◌}
+use Rattle.std.specs.Prelude.{◌≡◌, ◌⊎◌, ℕ, ◌+◌, ◌-◌, ◌<◌, ◌≤◌, ◌/◌, List, [], ◌∷◌, ◌++◌, length, map, take, drop, nat_eq, Option, Some, None, option_map, if◌then◌else◌}
 use Rattle.std.specs.Str.{chars, IsUtf8}
 use Rattle.strsim.specs.Edits.{osa_table}
 use Rattle.tx_check.specs.Labels.{labels_in}
@@ -110,7 +110,7 @@ IsKnown (Some (nears.Label line)) = ⊥
 -- session is a command, or begins with a call where that is nearer
 abbrev pub IsFoundIn : Names → List ℕ → Option NearName → Type 0
 IsFoundIn names.Calls word found = IsKnown found ⊎ FindsName word call_names 5 (option_map name_of found)
-IsFoundIn names.Instructions word found = IsKnown found ⊎ FindsName word (take 33 call_names) 5 (option_map name_of found)
+IsFoundIn names.Instructions word found = IsKnown found ⊎ FindsName word (take (length call_names - 1) call_names) 5 (option_map name_of found)
 IsFoundIn names.Commands word found = IsKnown found ⊎ FindsName word command_names 5 (option_map name_of found)
 IsFoundIn names.Session word found = IsKnown found ⊎ FindsName word (session_names ++ call_names) 5 (option_map name_of found)
 IsFoundIn names.Pieces word found = FindsName word piece_names 5 (option_map name_of found)
