@@ -473,8 +473,9 @@ class Kernel:
 
         None where that step commits none.
         """
-        words = self._lines(f"moved {number}")[0].split()
-        return Moved(words[1] == "one", _read_numbers(words[2])) if words[0] == "moved" else None
+        answer = self.ask(f"moved {number}")
+        steps = answer["entries"]
+        return None if steps is None else Moved(answer["one_moment"], tuple(steps))
 
     def schedule(self) -> str:
         """The text of a schedule with the steps up to the position, for `txos replay`."""

@@ -5,7 +5,7 @@ use Rattle.tx_plain.specs.MeantLines.{behind}
 use Rattle.tx_shell.specs.Cuts.{front_line}
 use Rattle.tx_shell.specs.Events.{ComeFrom, End, Event, GoTo, Line, Talks, Text}
 use Rattle.tx_shell.specs.Standings.{first_standing, Answers, IsQuit, Standing}
-use Rattle.tx_shell.specs.declared.answers.forms.Form.{Form}
+use Rattle.tx_script.specs.declared.forms.Form.{Form}
 use Rattle.tx_answers.specs.Talks.{IsTalkOf}
 
 -- some lines of a text are answered; whatever comes and goes from here on, behind what came and went, is of a talk over the whole text

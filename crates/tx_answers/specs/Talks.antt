@@ -2,8 +2,8 @@
 use Rattle.std.specs.Prelude.{ℕ, ℤ, pos, negsuc, zero, suc, List, [], Ok, Some, string_bytes}
 use Rattle.tx_shell.specs.Events.{Event, IsTalk}
 use Rattle.tx_shell.specs.Standings.{first_standing, Standing}
-use Rattle.tx_shell.specs.declared.answers.forms.Form.{Form}
-use Rattle.tx_shell.specs.declared.answers.forms.Form.TheVariants as forms
+use Rattle.tx_script.specs.declared.forms.Form.{Form}
+use Rattle.tx_script.specs.declared.forms.Form.TheVariants as forms
 use Rattle.tx_answers.specs.declared.answers.Answer.{Answer}
 use Rattle.tx_answers.specs.declared.answers.Answer.TheVariants.{NoMemory, Read, Unread}
 

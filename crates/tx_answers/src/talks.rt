@@ -9,7 +9,8 @@ use std::alloc::Global;
 use tx_base::NoMemory;
 use tx_lines::{LINE_BYTES, put, take_line};
 use tx_plain::Room;
-use tx_shell::{Form, Shell};
+use tx_script::Form;
+use tx_shell::Shell;
 
 /// How many bytes of a line are looked at, as at a terminal: a longer line is told of as too long.
 const LINE_MOST: usize = LINE_BYTES + 2;

@@ -34,10 +34,6 @@ lines_front at text = begin_object ++ (count_member (codes "at") at ++ lines_mem
 abbrev pub lines_with : ℕ → List ℕ → List Token → List Token
 lines_with at text members = begin_object ++ (count_member (codes "at") at ++ (lines_member text ++ (members ++ end_object)))
 
--- a position, and the lines of a text
-abbrev pub lines_answer : ℕ → List ℕ → List Token
-lines_answer at text = lines_with at text []
-
 -- the number of a step, where it was accepted
 abbrev pub number_members : ℕ → Reply → List Token
 number_members number (No refusal) = []

@@ -1,7 +1,7 @@
 //! Writes what a line is answered, an object each.
 ghost use Rattle.std.specs.Prelude.{◌≡◌, ◌++◌, IfOk, OnOk, map, string_bytes};
 ghost use Rattle.std.specs.Str.Lines.{lines};
-ghost use Rattle.tx_json.specs.Answers.{empty_answer, entry_answer, error_answer, line_item, lines_answer, lines_front, lines_member, number_members, position_answer, state_answer, state_key, step_answer, trial_answer};
+ghost use Rattle.tx_json.specs.Answers.{empty_answer, entry_answer, error_answer, line_item, lines_front, lines_member, number_members, position_answer, state_answer, state_key, step_answer, trial_answer};
 ghost use Rattle.tx_json.specs.Each.{each_tokens};
 ghost use Rattle.tx_json.specs.Line.{IsLineOf};
 ghost use Rattle.tx_json.specs.Members.{end_object};
@@ -39,16 +39,6 @@ pub fn position_answer(alloc: Global, position: usize) -> Result<String, NoMemor
     put_count(&mut writer, "at", position as u64)?;
     end_object(&mut writer)?;
     writer.into_text()
-}
-
-/// A position, and the lines of a text.
-///
-/// NoMemory where a growth is refused.
-pub fn lines_answer(alloc: Global, position: usize, text: &str) -> Result<String, NoMemory>
-    ensures { IfOk result (λ told.
-        IsLineOf (lines_answer position text.now) (string_bytes told)) }
-{
-    end_answer(begin_lines(alloc, position, text)?)
 }
 
 /// A line that begins with a position and the lines of a text, and may have more members.

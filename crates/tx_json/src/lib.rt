@@ -15,13 +15,14 @@ mod state;
 mod txns;
 
 pub use answers::{
-    begin_lines, empty_answer, end_answer, entry_answer, error_answer, lines_answer,
-    position_answer, put_entry, put_step_answer, state_answer, trial_answer,
+    begin_lines, empty_answer, end_answer, entry_answer, error_answer, position_answer, put_entry,
+    put_step_answer, state_answer, trial_answer,
 };
 pub use holders::{Holder, put_holders};
 pub use line::LineWriter;
 pub use lists::put_count_item;
 pub use members::{
-    begin_list, begin_object, end_list, end_object, put_count, put_key, put_null, put_word,
+    begin_list, begin_object, end_list, end_object, put_count, put_flag, put_key, put_null,
+    put_word,
 };
 pub use replies::put_reply;

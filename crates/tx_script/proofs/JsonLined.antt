@@ -1,5 +1,5 @@
--- What steps and commands do in a session, and the lines that they are answered.
-use Rattle.std.proofs.Common.{◌≡◌, ◌≢◌, ℕ, ◌+◌, ◌≤◌, List, [], ◌∷◌, ◌++◌, length, ◌⊎◌, refl, sym, ap, ◌∙◌, append_assoc}
+-- What steps do in a session, and the lines that they are answered.
+use Rattle.std.proofs.Common.{◌≡◌, ℕ, List, [], ◌∷◌, ◌++◌, length, refl, sym, ap, ◌∙◌, append_assoc}
 use Rattle.std.proofs.lemmas.List.{append-nil}
 use Rattle.json.specs.Token.{Token}
 use Rattle.tx_base.specs.declared.steps.Accepted.{Accepted}
@@ -7,8 +7,7 @@ use Rattle.tx_base.specs.declared.steps.Reply.{Reply}
 use Rattle.tx_base.specs.declared.steps.Step.{Step}
 use Rattle.tx_journal.specs.Entries.{history_of}
 use Rattle.tx_journal.specs.Sessions.{IsAtEnd, SessionState, SameBoot, position_of, start_of}
-use Rattle.tx_json.specs.Answers.{lines_answer, step_answer}
-use Rattle.tx_lines.specs.declared.read.command.Command.{Command}
+use Rattle.tx_json.specs.Answers.{step_answer}
 use Rattle.tx_lines.specs.declared.read.command.Command.TheVariants as commands
 use Rattle.tx_model.specs.Answer.{answer}
 use Rattle.tx_model.specs.Schedules.{history_with, history_of as history_after}
@@ -16,7 +15,6 @@ use Rattle.tx_model.specs.State.{State}
 use Rattle.tx_model.specs.View.{view}
 use Rattle.tx_script.proofs.StepsMade.{history_length, replied, same_start, StepsSoFar}
 use Rattle.tx_script.specs.JsonLines.{command_line, line_of, step_lines, text_of}
-use Rattle.tx_script.specs.Debug.{command_answer, position_after}
 
 -- ---- lines
 
@@ -88,14 +86,3 @@ schedule_whole start steps booted kept made none front text starts empty same no
 
     at : position_of made ≡ length (history_after start [] steps)
     at = at_end ∙ sym (history_length made.entries) ∙ ap length history
-
--- ---- commands
-
--- a command that asks for no state is answered by its lines
-pub told_by_lines : (start : State) (history : List Accepted) (at : ℕ) (command : Command) → command ≢ commands.State
-    → command_line start history at command ≡ lines_answer (position_after history at command) (command_answer start history at command)
-told_by_lines start history at commands.Back other = refl
-told_by_lines start history at commands.Forward other = refl
-told_by_lines start history at (commands.Goto to) other = refl
-told_by_lines start history at commands.State other = absurd (other refl)
-told_by_lines start history at (commands.Moved number) other = refl

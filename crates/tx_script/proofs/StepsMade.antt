@@ -1,5 +1,5 @@
 -- What the steps of a schedule make of a session.
-use Rattle.std.proofs.Common.{◌≡◌, ℕ, ◌+◌, ◌≤◌, List, [], ◌∷◌, ◌++◌, length, map, reverse, take, ◌⊎◌, refl, sym, ap, ◌∙◌, arith}
+use Rattle.std.proofs.Common.{◌≡◌, ℕ, List, [], ◌∷◌, ◌++◌, length, map, reverse, take, ◌⊎◌, refl, sym, ap, ◌∙◌, arith}
 use Rattle.std.proofs.lemmas.List.{length-map, length-reverse, map-append, reverse-append, reverse-reverse, take-map, take_all}
 use Rattle.tx_base.specs.declared.steps.Accepted.{Accepted}
 use Rattle.tx_base.specs.declared.steps.Refusal.TheVariants.{NoMemory}
@@ -15,7 +15,7 @@ use Rattle.tx_model.specs.Schedules.{history_with, history_of as history_after}
 use Rattle.tx_model.specs.State.{State, boot_state}
 use Rattle.tx_model.specs.View.{View, view}
 use Rattle.tx_script.proofs.Reported.{replied_answer}
-use Rattle.tx_script.specs.Debug.{first_steps}
+use Rattle.tx_script.specs.Debug.{first_steps, view_at}
 use Rattle.tx_script.specs.Made.{IsMade}
 use Rattle.tx_script.specs.Report.{start_state}
 use Rattle.tx_lines.specs.declared.read.header.Header.{Header}
@@ -28,6 +28,10 @@ pub history_to : (at : ℕ) (entries : List Entry) → history_of (take at entri
 history_to at entries =
     ap (λ (h : List Accepted). reverse h) (sym (take-map accepted_of at entries))
     ∙ ap (λ (h : List Accepted). reverse (take at h)) (sym (reverse-reverse (map accepted_of entries)))
+
+-- what is shown at the position
+pub shown_at : (k : SessionState) → view (start_of k) (history_of (made_of k)) ≡ view_at (start_of k) (history_of k.entries) (position_of k)
+shown_at k = ap (λ (h : List Accepted). view (start_of k) h) (history_to (position_of k) k.entries)
 
 history_more : (entries : List Entry) (e : Entry) → history_of (entries ++ e ∷ []) ≡ accepted_of e ∷ history_of entries
 history_more entries e = ap (λ (h : List Accepted). reverse h) (map-append accepted_of entries (e ∷ [])) ∙ reverse-append (map accepted_of entries) (accepted_of e ∷ [])

@@ -1,26 +1,13 @@
 -- What commands do in a session, and what they answer.
-use Rattle.std.proofs.Common.{◌≡◌, ℕ, ◌+◌, ◌≤◌, List, [], ◌∷◌, ◌++◌, length, true, nat_lt, ◌⊎◌, refl, sym, ap, ◌∙◌, arith, append_assoc}
-use Rattle.std.proofs.lemmas.Bool.{lt-ltb}
+use Rattle.std.proofs.Common.{◌≡◌, ℕ, List, [], ◌∷◌, ◌++◌, refl, sym, ap, ◌∙◌, append_assoc}
 use Rattle.std.proofs.lemmas.List.{append-nil}
 use Rattle.tx_base.specs.declared.steps.Accepted.{Accepted}
 use Rattle.tx_journal.specs.Entries.{history_of}
 use Rattle.tx_journal.specs.Sessions.{SessionState, SameJournal, position_of, start_of}
 use Rattle.tx_model.specs.State.{State}
-use Rattle.tx_script.proofs.StepsMade.{history_length, same_start}
-use Rattle.tx_script.specs.Debug.{answers_at, command_answer, position_after, position_text, Writing}
+use Rattle.tx_script.proofs.StepsMade.{same_start}
+use Rattle.tx_script.specs.Debug.{answers_at, position_after, Writing}
 use Rattle.tx_lines.specs.declared.read.command.Command.{Command}
-use Rattle.tx_lines.specs.declared.read.command.Command.TheVariants.{Forward}
-
--- an entry was made again, so there was one
-pub can_go_forward : (old new : SessionState) → position_of new ≡ position_of old + 1 → SameJournal new old → position_of new ≤ length new.entries → nat_lt (position_of old) (length (history_of old.entries)) ≡ true
-can_go_forward old new moved same inside =
-    let whole : length (history_of old.entries) ≡ length old.entries = history_length old.entries in
-    let kept : length new.entries ≡ length old.entries = ap length same.entries in
-    lt-ltb (position_of old) (length (history_of old.entries)) (omega (arith, moved, inside, whole, kept))
-
-pub went_forward : (start : State) (history : List Accepted) (at after : ℕ) → after ≡ at + 1 → nat_lt at (length history) ≡ true → (position_text after ≡ command_answer start history at Forward) × (after ≡ position_after history at Forward)
-went_forward start history at after moved can =
-    (rw can (ap position_text moved), rw can moved)
 
 -- so far: the commands that are left answer from the position so far on
 pub record CommandsSoFar (written : Writing) (first now : SessionState) (commands left : List Command) (before text : List ℕ) : Type 0 where

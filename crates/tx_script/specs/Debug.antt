@@ -1,13 +1,15 @@
--- What the commands of a debugger answer: functions of the history of the schedule and of the position alone.
+-- What the commands of a debugger respond, and how that is told as text: functions of the history of the schedule and of the position alone.
 use Rattle.std.specs.Prelude.{ℕ, zero, suc, ◌+◌, List, [], ◌∷◌, ◌++◌, Option, Some, None, length, nat_le, nat_lt, reverse, take, codes, if◌then◌else◌}
 use Rattle.std.specs.Fmt.{decimal}
 use Rattle.tx_base.specs.declared.steps.Accepted.{Accepted}
 use Rattle.tx_base.specs.declared.steps.Step.{Step}
-use Rattle.tx_journal.specs.Moved.{Told, moved_at}
+use Rattle.tx_journal.specs.Moved.{Told, moved_at, told_in}
 use Rattle.tx_model.specs.Schedules.{history_of}
 use Rattle.tx_model.specs.State.{State as Start}
 use Rattle.tx_model.specs.View.{View, view}
 use Rattle.tx_script.specs.Report.{start_state}
+use Rattle.tx_script.specs.declared.responses.Response.{Response}
+use Rattle.tx_script.specs.declared.responses.Response.TheVariants as responses
 use Rattle.tx_lines.specs.declared.read.command.Command.{Command}
 use Rattle.tx_lines.specs.declared.read.command.Command.TheVariants.{Back, Forward, Goto, State, Moved}
 use Rattle.tx_lines.specs.declared.read.header.Header.{Header}
@@ -30,19 +32,42 @@ position_text at = codes "at " ++ (decimal at ++ codes "\n")
 abbrev pub told_text : Told → List ℕ
 told_text told = (if told.one_moment then codes "moved one " else codes "moved many ") ++ (list_text told.numbers ++ codes "\n")
 
--- the answer about an entry
-abbrev pub moved_text : Option Told → List ℕ
-moved_text None = codes "no commit\n"
-moved_text (Some told) = told_text told
+-- what a command responds once it is done
+pub data Responded : Type 0 where
+  -- the position, and the state there
+  at_position : Responded
+  the_state : Responded
+  -- there is no entry to take back, none to make again, no such position
+  no_start : Responded
+  no_end : Responded
+  no_place : Responded
+  -- the history with the steps of a transaction together, or that none is committed
+  moves : Told → Responded
+  no_commit : Responded
 
--- what a command answers at a position
-abbrev pub command_answer : Start → List Accepted → ℕ → Command → List ℕ
-command_answer start history zero Back = codes "no start\n"
-command_answer start history (suc at) Back = position_text at
-command_answer start history at Forward = if nat_lt at (length history) then position_text (at + 1) else codes "no end\n"
-command_answer start history at (Goto to) = if nat_le to (length history) then position_text to else codes "no place\n"
-command_answer start history at State = state_text (view_at start history at)
-command_answer start history at (Moved number) = moved_text (moved_at start history number)
+-- what a response tells
+abbrev pub responded_in : Response → Responded
+responded_in responses.Position = at_position
+responded_in responses.State = the_state
+responded_in responses.NoStart = no_start
+responded_in responses.NoEnd = no_end
+responded_in responses.NoPlace = no_place
+responded_in (responses.Moved moved) = moves (told_in moved.value)
+responded_in responses.NoCommit = no_commit
+
+-- the response about an entry
+abbrev pub commit_response : Option Told → Responded
+commit_response None = no_commit
+commit_response (Some told) = moves told
+
+-- what a command at a position responds
+abbrev pub command_response : Start → List Accepted → ℕ → Command → Responded
+command_response start history zero Back = no_start
+command_response start history (suc at) Back = at_position
+command_response start history at Forward = if nat_lt at (length history) then at_position else no_end
+command_response start history at (Goto to) = if nat_le to (length history) then at_position else no_place
+command_response start history at State = the_state
+command_response start history at (Moved number) = commit_response (moved_at start history number)
 
 -- the position after a command
 abbrev pub position_after : List Accepted → ℕ → Command → ℕ
@@ -53,9 +78,23 @@ position_after history at (Goto to) = if nat_le to (length history) then to else
 position_after history at State = at
 position_after history at (Moved number) = at
 
+-- a response as text, at the position to which the command led
+abbrev pub response_text : Start → List Accepted → ℕ → Responded → List ℕ
+response_text start history at at_position = position_text at
+response_text start history at the_state = state_text (view_at start history at)
+response_text start history at no_start = codes "no start\n"
+response_text start history at no_end = codes "no end\n"
+response_text start history at no_place = codes "no place\n"
+response_text start history at (moves told) = told_text told
+response_text start history at no_commit = codes "no commit\n"
+
 -- how the answer to a command at a position is written
 abbrev pub Writing : Type 0
 Writing = Start → List Accepted → ℕ → Command → List ℕ
+
+-- as text
+abbrev pub command_answer : Writing
+command_answer start history at command = response_text start history (position_after history at command) (command_response start history at command)
 
 -- what some commands answer in turn, from a position on
 abbrev pub answers_at : Writing → Start → List Accepted → ℕ → List Command → List ℕ

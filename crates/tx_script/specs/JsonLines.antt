@@ -1,10 +1,14 @@
 -- The lines of JSON that a schedule, or commands on it, are answered: functions of the history of the schedule.
-use Rattle.std.specs.Prelude.{ℕ, List, [], ◌∷◌, ◌++◌, length}
+use Rattle.std.specs.Prelude.{ℕ, List, [], ◌∷◌, ◌++◌, codes, length}
 use Rattle.json.specs.Print.{print}
 use Rattle.json.specs.Token.{Token}
 use Rattle.tx_base.specs.declared.steps.Accepted.{Accepted}
 use Rattle.tx_base.specs.declared.steps.Step.{Step}
-use Rattle.tx_json.specs.Answers.{lines_answer, state_answer, step_answer}
+use Rattle.tx_journal.specs.Moved.{Told}
+use Rattle.tx_json.specs.Answers.{lines_with, state_answer, step_answer}
+use Rattle.tx_json.specs.Each.{each_tokens}
+use Rattle.tx_json.specs.Lists.{count_item}
+use Rattle.tx_json.specs.Members.{flag_member, list_member, null_member}
 use Rattle.tx_lines.specs.declared.read.command.Command.{Command}
 use Rattle.tx_lines.specs.declared.read.command.Command.TheVariants as commands
 use Rattle.tx_lines.specs.declared.read.header.Header.{Header}
@@ -12,7 +16,7 @@ use Rattle.tx_model.specs.Answer.{answer}
 use Rattle.tx_model.specs.Schedules.{history_of, history_with}
 use Rattle.tx_model.specs.State.{State}
 use Rattle.tx_model.specs.View.{view}
-use Rattle.tx_script.specs.Debug.{command_answer, position_after, view_at, Writing}
+use Rattle.tx_script.specs.Debug.{command_answer, command_response, moves, no_commit, position_after, response_text, the_state, view_at, Responded, Writing}
 use Rattle.tx_script.specs.Report.{start_state}
 use Rattle.tx_script.specs.declared.forms.Form.{Form}
 use Rattle.tx_script.specs.declared.forms.Form.TheVariants.{Text, Json}
@@ -34,10 +38,24 @@ step_lines start earlier (step ∷ steps) =
     let history = history_with earlier step reply in
     step_answer (length history) reply ∷ step_lines start history steps
 
--- what a command answers at a position: the state there; or else the position behind it, and the lines that it answers as text
+-- whether a transaction may count as one moment, and the entries with its steps together
+abbrev pub moved_members : Told → List Token
+moved_members told = flag_member (codes "one_moment") told.one_moment ++ list_member (codes "entries") (each_tokens count_item told.numbers)
+
+-- what JSON has of a response after the lines of its text
+abbrev pub response_members : Responded → List Token
+response_members (moves told) = moved_members told
+response_members no_commit = null_member (codes "entries")
+response_members response = []
+
+-- a response, at the position to which the command led: that and the state there; or else that, the lines of its text, and those members
+abbrev pub response_line : State → List Accepted → ℕ → Responded → List Token
+response_line start history at the_state = state_answer at (view_at start history at)
+response_line start history at response = lines_with at (response_text start history at response) (response_members response)
+
+-- what a command at a position is answered
 abbrev pub command_line : State → List Accepted → ℕ → Command → List Token
-command_line start history at commands.State = state_answer at (view_at start history at)
-command_line start history at command = lines_answer (position_after history at command) (command_answer start history at command)
+command_line start history at command = response_line start history (position_after history at command) (command_response start history at command)
 
 -- that line
 abbrev pub json_answer : Writing

@@ -10,7 +10,8 @@ ghost use Rattle.tx_script.specs.JsonLines.{written_in};
 use crate::as_json::put_line;
 use crate::forms::Form;
 use crate::made::walked;
-use crate::walks::put_answer;
+use crate::responses::put_response;
+use crate::walks::walk;
 use std::alloc::Global;
 use tx_journal::Session;
 use tx_lines::{Command, Fault, Walk};
@@ -71,8 +72,10 @@ fn put_in(
     ensures journal { SameJournal session.new session.old }
     ensures fault { IfErr result (λ fault. fault ≡ NoMemory) }
 {
+    let response = walk(alloc, session, command)?;
     match form {
-        Form::Text => put_answer(alloc, text, session, command),
-        Form::Json => put_line(alloc, text, session, command),
+        Form::Text => put_response(text, session, &response)?,
+        Form::Json => put_line(alloc, text, session, &response)?,
     }
+    Ok(())
 }

@@ -1,10 +1,10 @@
-//! In which form commands are answered.
+//! In which form steps and commands are answered.
 
-/// In which form a command is answered.
+/// In which form steps and commands are answered.
 #[derive(Clone, Copy)]
 pub enum Form {
     /// As lines that a person reads.
     Text,
-    /// As a line of JSON.
+    /// Each answer as a line of JSON.
     Json,
 }

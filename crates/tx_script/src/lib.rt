@@ -5,10 +5,10 @@
 //! reads a schedule with commands, makes the steps in a session, and writes what the commands
 //! answer. `report` makes the steps and prints the line of each reply, by tx_text, and the state
 //! that the last one leaves, by tx_journal. `answer_walk` makes the steps in a `Session` (`made.rt`)
-//! and goes over the commands, in either form: as text, where `put_answer` (`walks.rt`) does what
-//! one command says and prints its answer, or as JSON (`as_json/`). What a text of a kind spells,
-//! where it is at fault and what answers it is a `Grammar` of specs: `schedules` and `walks` are
-//! two, and one definition (`Answers`) says of both what is read and written. `replay` changes a
+//! and goes over the commands: `walk` does what one of them says, and gives its `Response`, which is
+//! printed in a `Form`: as text (`put_response`), or as JSON (`as_json/`). What a text of a kind
+//! spells, where it is at fault and what answers it is a `Grammar` of specs: `schedules` and `walks`
+//! are two, and one definition (`Answers`) says of both what is read and written. `replay` changes a
 //! kernel only through `boot` and `step_into`, and takes no step back: each inverse is put in the
 //! place of the one before. `write_json` answers both kinds of texts by lines of JSON, and
 //! `run_lines` a run. The ends, the faults and the programs of texts are given on from tx_lines and
@@ -23,14 +23,17 @@ mod machines;
 mod made;
 mod replays;
 mod reports;
+mod responses;
 mod walks;
 
-pub use as_json::{json_text, run_lines, write_json};
+pub use as_json::{json_text, response_line, run_lines, write_json};
 pub use debugs::{debug, debug_text};
+pub use forms::Form;
 pub use machines::boot;
 pub use made::WORKER;
 pub use replays::{replay, replay_text};
 pub use reports::report;
+pub use responses::{Response, put_response};
 pub use tx_lines::{Fault, Flow, OverRead, OverWrite, Program, Sink, Source};
 pub use tx_plain::read_program;
-pub use walks::put_answer;
+pub use walks::walk;

@@ -21,7 +21,7 @@ use Rattle.tx_shell.specs.Places.{Place}
 use Rattle.tx_shell.specs.Spelled.{AllFit, IsSpelled, SpellsSchedule, StaysSpelled}
 use Rattle.tx_shell.specs.Standings.{Answers, AnswersMeant, first_standing, Opens, Standing}
 use Rattle.tx_shell.specs.declared.lines.asks.Ask.{Ask}
-use Rattle.tx_shell.specs.declared.answers.forms.Form.{Form}
+use Rattle.tx_script.specs.declared.forms.Form.{Form}
 use Rattle.tx_shell.specs.declared.lines.versions.TextVersion.{TextVersion}
 
 -- what holds of each of a list holds of each of the list turned round

@@ -17,7 +17,7 @@ use Rattle.tx_model.specs.Answer.{answer}
 use Rattle.tx_model.specs.Schedules.{history_with}
 use Rattle.tx_model.specs.State.{State}
 use Rattle.tx_model.specs.View.{view}
-use Rattle.tx_script.specs.Debug.{command_answer, first_steps, position_after}
+use Rattle.tx_script.specs.Debug.{command_response, first_steps, position_after, responded_in, Responded}
 use Rattle.tx_shell.specs.Changes.{shown_at, FindsLast, FindsNext}
 use Rattle.tx_shell.specs.Differences.{differing_without, views_differing}
 use Rattle.tx_shell.specs.Forms.{SaysAhead, SaysAnswer, SaysReply, TellsIn}
@@ -27,7 +27,7 @@ use Rattle.tx_shell.specs.Places.{Place}
 use Rattle.tx_shell.specs.Reasons.{HelpsOn}
 use Rattle.tx_shell.specs.declared.answers.answer.Answer.TheVariants as answers
 use Rattle.tx_shell.specs.declared.answers.answer.Answer.{Answer}
-use Rattle.tx_shell.specs.declared.answers.forms.Form.{Form}
+use Rattle.tx_script.specs.declared.forms.Form.{Form}
 use Rattle.tx_shell.specs.declared.lines.asks.Ask.TheVariants as asks
 use Rattle.tx_shell.specs.declared.lines.asks.Ask.{Ask}
 use Rattle.tx_shell.specs.declared.questions.changes.Change.{Change}
@@ -101,15 +101,14 @@ pub record LeavesStep (form : Form) (p : Place) (text : List ℕ) (q : Place) : 
 abbrev pub AnswersStep : Form → State → Place → Step → List ℕ → Place → Type 0
 AnswersStep form start p step text q = MakesStep form start p step text q ⊎ LeavesStep form p text q
 
--- the debugger answers those lines; the state is asked for, and no lines
-abbrev pub IsWalked : List ℕ → Command → Answer → Type 0
-IsWalked lines command answers.State = command ≡ commands.State
-IsWalked lines command (answers.Walked text) = (command ≢ commands.State) × (string_bytes text ≡ lines)
-IsWalked lines command other = ⊥
+-- the debugger responds that
+abbrev pub IsWalked : Responded → Answer → Type 0
+IsWalked responded (answers.Walked response) = responded_in response ≡ responded
+IsWalked responded other = ⊥
 
--- a command of the debugger answers as in a text for it, and leads to the same position
+-- a command of the debugger responds as in a text for it, and leads to the same position
 pub record Walks (start : State) (p : Place) (command : Command) (found : Answer) (q : Place) : Type 0 where
-  pub told : IsWalked (command_answer start p.history p.at command) command found
+  pub told : IsWalked (command_response start p.history p.at command) found
   pub at : q.at ≡ position_after p.history p.at command
 
 -- a step would get that reply, and the state after it would differ by those lines

@@ -4,13 +4,14 @@ use Rattle.json.specs.Token.{Token}
 use Rattle.tx_base.specs.declared.steps.Accepted.{Accepted}
 use Rattle.tx_base.specs.declared.steps.Reply.{Reply}
 use Rattle.tx_check.specs.Sessions.{IsSessionTold}
-use Rattle.tx_json.specs.Answers.{empty_answer, error_answer, position_answer, step_answer, lines_with, state_answer, trial_answer}
+use Rattle.tx_json.specs.Answers.{empty_answer, error_answer, position_answer, step_answer, lines_with, trial_answer}
 use Rattle.tx_json.specs.Line.{IsLineOf}
 use Rattle.tx_json.specs.Members.{count_member, null_member}
 use Rattle.tx_model.specs.Schedules.{history_of}
 use Rattle.tx_model.specs.State.{State}
 use Rattle.tx_model.specs.View.{view}
-use Rattle.tx_script.specs.Debug.{position_text, first_steps}
+use Rattle.tx_script.specs.Debug.{first_steps, position_text, responded_in, response_text}
+use Rattle.tx_script.specs.JsonLines.{response_line}
 use Rattle.tx_shell.specs.Changes.{TellsFound}
 use Rattle.tx_shell.specs.Journals.{schedule_so_far, steps_listed, steps_made}
 use Rattle.tx_shell.specs.Members.{change_member, owner_member, owners_member, steps_member, why_members}
@@ -20,10 +21,9 @@ use Rattle.tx_shell.specs.Places.{Place}
 use Rattle.tx_shell.specs.Reasons.{TellsWhy}
 use Rattle.tx_shell.specs.declared.answers.answer.Answer.TheVariants as answers
 use Rattle.tx_shell.specs.declared.answers.answer.Answer.{Answer}
-use Rattle.tx_shell.specs.declared.answers.forms.Form.TheVariants.{Text, Json}
-use Rattle.tx_shell.specs.declared.answers.forms.Form.{Form}
+use Rattle.tx_script.specs.declared.forms.Form.TheVariants.{Text, Json}
+use Rattle.tx_script.specs.declared.forms.Form.{Form}
 use Rattle.tx_text.specs.Replies.{named_reply_text}
-use Rattle.tx_text.specs.State.{state_text}
 
 -- what is wrong with the line, between a mark and the line's end
 pub record TellsOf (line text : List ℕ) : Type 0 where
@@ -68,8 +68,7 @@ pub record PrintsSchedule (o : Origin) (p : Place) (text : List ℕ) : Type 0 wh
 
 -- an answer as text, at a place up to which the steps of the history h are made
 abbrev pub TellsAnswer : Origin → List Accepted → Place → Answer → List ℕ → Type 0
-TellsAnswer o h p (answers.Walked lines) text = text ≡ string_bytes lines
-TellsAnswer o h p answers.State text = text ≡ state_text (view (start_in o) h)
+TellsAnswer o h p (answers.Walked response) text = text ≡ response_text (start_in o) p.history p.at (responded_in response)
 TellsAnswer o h p answers.Position text = text ≡ position_text p.at
 TellsAnswer o h p (answers.Steps first last) text = text ≡ steps_listed p first last
 TellsAnswer o h p answers.Schedule text = PrintsSchedule o p text
@@ -100,9 +99,10 @@ pub record SaysLines (o : Origin) (h : List Accepted) (p : Place) (answer : Answ
   pub tells : TellsAnswer o h p answer told
   pub says : IsLineOf (lines_with p.at told (answer_members (start_in o) h p answer)) text
 
--- an answer as JSON: of a state the state, of a trial the reply and the lines that differ, of a cut the position, and of all else the lines of its text
+-- an answer as JSON: of a command of the debugger the line that a text for it has, of a trial the reply and the lines that differ, of a cut the position,
+-- and of all else the lines of its text
 abbrev pub SaysJson : Origin → List Accepted → Place → Answer → List ℕ → Type 0
-SaysJson o h p answers.State text = IsLineOf (state_answer p.at (view (start_in o) h)) text
+SaysJson o h p (answers.Walked response) text = IsLineOf (response_line (start_in o) p.history p.at (responded_in response)) text
 SaysJson o h p answers.Position text = IsLineOf (position_answer p.at) text
 SaysJson o h p (answers.Trial reply differences) text = IsLineOf (trial_answer p.at reply (string_bytes differences)) text
 SaysJson o h p answer text = SaysLines o h p answer text

@@ -6,7 +6,7 @@ use Rattle.tx_shell.specs.Forms.{SaysNothing, SaysPosition}
 use Rattle.tx_shell.specs.Meanings.{meant_line}
 use Rattle.tx_shell.specs.Origins.{Origin, SaysNoOrigin, SaysOrigin}
 use Rattle.tx_shell.specs.Places.{origin_of, Place, place_of}
-use Rattle.tx_shell.specs.declared.answers.forms.Form.{Form}
+use Rattle.tx_script.specs.declared.forms.Form.{Form}
 use Rattle.tx_shell.specs.declared.shell.Shell.{Shell}
 use Rattle.tx_shell.specs.declared.lines.versions.TextVersion.TheVariants.{Three}
 

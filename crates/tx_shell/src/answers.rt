@@ -16,7 +16,7 @@ pub mod steps;
 pub mod tells;
 
 use crate::answers::answer::find_answer;
-use crate::answers::forms::Form;
+use crate::answers::forms::say_answer;
 use crate::answers::steps::answer_step;
 use crate::answers::tells::tell_in;
 use crate::lines::asks::{Ask, read_ask};
@@ -25,6 +25,7 @@ use std::alloc::Global;
 use tx_base::{NoMemory, Reply, Step};
 use tx_journal::Session;
 use tx_lines::read_step;
+use tx_script::Form;
 
 /// What answers lines: a session, of which version its lines are, and in which form it is answered.
 #[derive(Drop)]
@@ -123,9 +124,7 @@ impl Interpreter {
     {
         let lets_go = ask.lets_go();
         let answer = find_answer(alloc, &mut self.session, &self.refused, ask)?;
-        let text = self
-            .form
-            .answer(alloc, self.version, &self.session, &answer)?;
+        let text = say_answer(alloc, self.form, self.version, &self.session, &answer)?;
         leave(&mut self.session, lets_go);
         Ok(text)
     }

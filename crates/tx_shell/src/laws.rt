@@ -1,7 +1,7 @@
 //! What holds of talks, as the contract of a function that does nothing.
 ghost use Rattle.tx_shell.specs.Spelled.{IsSpelled, SpellsSchedule, StaysSpelled};
 ghost use Rattle.tx_shell.specs.Standings.{first_standing};
-ghost use Rattle.tx_shell.specs.declared.answers.forms.Form.{Form};
+ghost use Rattle.tx_script.specs.declared.forms.Form.{Form};
 
 /// A talk has steps alone that a text of its version can hold, so what `text` prints is the text of a
 /// schedule, as `replay` reads it, as long as it has no more steps than a text may have.

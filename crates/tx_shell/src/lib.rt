@@ -19,7 +19,7 @@
 //!   finds why a step would be refused (`Reason`), with each object in its way (`Blocker`, `blockers.rt`),
 //!   the signals that have two answers (`signals.rt`), or what it waits for (`waits.rt`) and who could end
 //!   that wait (`holders.rt`).
-//! - `answers`: what is asked for is done once, and has one `Answer` (`answer.rt`), which a `Form` prints:
+//! - `answers`: what is asked for is done once, and has one `Answer` (`answer.rt`), printed in a `Form`:
 //!   as text (`as_text.rt`), or as a line of JSON (`as_json.rt`, and `as_json/` for the members that it has
 //!   beside the lines of the text, over tx_json). The debugger's commands are answered by tx_script, and so
 //!   as in a text for it; `journals.rt` lists the steps, and prints the schedule that makes them again;
@@ -37,7 +37,6 @@ mod questions;
 mod shell;
 mod talks;
 
-pub use answers::forms::Form;
 pub use laws::a_talk_spells_a_schedule;
 pub use lines::versions::TextVersion;
 pub use shell::Shell;

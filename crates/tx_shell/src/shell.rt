@@ -9,7 +9,7 @@ ghost use Rattle.tx_shell.specs.Standings.{begun_by, first_standing, quit_line, 
 ghost use Rattle.tx_shell.specs.Standings.{IsNoHeader, IsQuit, Stops, StopsMeant};
 
 use crate::answers::Interpreter;
-use crate::answers::forms::Form;
+use crate::answers::forms::{say_nothing, say_position};
 use crate::lines::meanings::meant_line;
 use crate::lines::openings::{Opening, read_opening};
 use crate::lines::versions::TextVersion;
@@ -18,6 +18,7 @@ use tx_base::{Call, NoMemory, Pid, Reply, Step};
 use tx_journal::Session;
 use tx_lines::read_step_into;
 use tx_plain::{Room, second_stays_itself};
+use tx_script::Form;
 
 /// A session at a terminal, in which form it is answered, and of which version its lines are.
 #[derive(Drop)]
@@ -136,7 +137,7 @@ impl Shell {
         match meant_line(alloc, room, self.interpreter.version, line)? {
             Some(words) => self.answer_meant(alloc, line, words.as_bytes(), text),
             None => {
-                *text = self.interpreter.form.nothing(alloc)?;
+                *text = say_nothing(alloc, self.interpreter.form)?;
                 Ok(true)
             }
         }
@@ -185,7 +186,7 @@ impl Shell {
     {
         let mut session = Session::boot_by(alloc, opening.header)?;
         reserve_ahead(&mut session);
-        let text = self.interpreter.form.position(alloc, 0)?;
+        let text = say_position(alloc, self.interpreter.form, 0)?;
         self.interpreter.session = session;
         self.interpreter.version = opening.version;
         self.interpreter.refused = None;

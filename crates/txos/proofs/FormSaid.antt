@@ -8,7 +8,7 @@ use Rattle.clap.specs.Walk.{one_of, rows_of, Row, Text}
 use Rattle.clap.specs.declared.parser.matches.Found.{Found}
 use Rattle.clap.specs.declared.parser.matches.MatchedArg.{MatchedArg}
 use Rattle.txos.specs.CommandLine.{text_in, IsFormOf}
-use Rattle.tx_shell.specs.declared.answers.forms.Form.TheVariants.{Json, Text as AsText}
+use Rattle.tx_script.specs.declared.forms.Form.TheVariants.{Json, Text as AsText}
 
 -- the rows that were entered have what is read of the flag
 flag_read : (name : Text) (entered : Option (Text × List Row)) (f : Found) → option_map (λ (p : Text × List Row). p.1) entered ≡ Some (rows_of f) → text_in name entered ≡ one_text f name

@@ -9,8 +9,8 @@ use Rattle.clap.specs.declared.builder.action.ArgAction.TheVariants.{SetTrue}
 use Rattle.clap.specs.declared.builder.value_parser.ValueParser.TheVariants.{Signed}
 use Rattle.tx_check.specs.declared.readers.Reader.{Reader}
 use Rattle.tx_check.specs.declared.readers.Reader.TheVariants as readers
-use Rattle.tx_shell.specs.declared.answers.forms.Form.{Form}
-use Rattle.tx_shell.specs.declared.answers.forms.Form.TheVariants as forms
+use Rattle.tx_script.specs.declared.forms.Form.{Form}
+use Rattle.tx_script.specs.declared.forms.Form.TheVariants as forms
 use Rattle.txos.specs.declared.words.Asked.{Asked}
 use Rattle.txos.specs.declared.words.Asked.TheVariants.{Check, Debug, Explain, HalfRun, Json, JsonRun, NoReader, Picture, Plain, Replay, Run, Shell, Version}
 

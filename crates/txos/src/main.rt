@@ -26,8 +26,8 @@ use tx_explain::{explain, listing, nearest};
 use tx_lines::{Fault, OverRead, OverWrite, Sink, Source, write_whole};
 use tx_picture::picture;
 use tx_plain::write_plain;
-use tx_script::{debug, replay, write_json};
-use tx_shell::{Console, Form, Shell, TalkFault, talk};
+use tx_script::{Form, debug, replay, write_json};
+use tx_shell::{Console, Shell, TalkFault, talk};
 use words::{Asked, CHECK_USAGE, JSON_USAGE, VERSION_LINES, number_asked, read_words};
 
 /// The status of a fault.

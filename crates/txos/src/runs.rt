@@ -11,8 +11,7 @@ use std::sync::Wait;
 use std::thread::Threads;
 use tx_journal::Session;
 use tx_lines::{Fault, Sink, Source, write_whole};
-use tx_script::run_lines;
-use tx_shell::Form;
+use tx_script::{Form, run_lines};
 use tx_workers::{RunFault, run_from, write_run};
 
 /// Reads the text of a program to its end, runs it from its start by workers, and writes the run: its text,

@@ -12,7 +12,7 @@ use clap::error::Error;
 use clap::{Arg, ArgAction, ArgMatches, Command, value_parser};
 use std::alloc::{AllocError, Global};
 use tx_check::Reader;
-use tx_shell::Form;
+use tx_script::Form;
 
 /// The version of the program.
 const VERSION: &str = "1.0.0";

@@ -4,7 +4,8 @@ ghost use Rattle.tx_lines.specs.declared.faults.Fault.TheVariants.{NoMemory};
 ghost use Rattle.tx_script.specs.JsonLines.{line_of, text_of};
 ghost use Rattle.tx_script.specs.JsonRuns.{entry_line, entry_lines, run_lines};
 
-use crate::as_json::commands::put_state;
+use crate::as_json::responses::put_line;
+use crate::responses::Response;
 use std::alloc::Global;
 use tx_journal::{Entry, Session};
 use tx_json::entry_answer;
@@ -19,7 +20,7 @@ pub fn run_lines(alloc: Global, session: &Session) -> Result<String, Fault>
 {
     let mut text = String::new(alloc);
     put_entries(alloc, &mut text, session.entries())?;
-    put_state(alloc, &mut text, session)?;
+    put_line(alloc, &mut text, session, &Response::State)?;
     Ok(text)
 }
 

@@ -10,8 +10,9 @@ ghost use Rattle.tx_model.specs.Schedules.{history_with, history_of as history_a
 ghost use Rattle.tx_model.specs.View.{view};
 ghost use Rattle.tx_script.specs.JsonLines.{line_of, schedule_lines, step_lines, text_of};
 
-use crate::as_json::commands::put_state;
+use crate::as_json::responses::put_line;
 use crate::made::make_step;
+use crate::responses::Response;
 use std::alloc::Global;
 use tx_base::{Reply, Step};
 use tx_journal::Session;
@@ -30,7 +31,7 @@ pub fn schedule_lines(alloc: Global, schedule: &Schedule) -> Result<String, Faul
     session.reserve(schedule.steps.len())?;
     let mut text = String::new(alloc);
     put_replies(alloc, &mut text, &mut session, schedule.steps.as_slice())?;
-    put_state(alloc, &mut text, &session)?;
+    put_line(alloc, &mut text, &session, &Response::State)?;
     Ok(text)
 }
 

@@ -1,9 +1,9 @@
 //! Finds what is answered to what is asked for, once for every form.
-ghost use Rattle.std.specs.Prelude.{◌≡◌, IfOk, OnOk, string_bytes};
+ghost use Rattle.std.specs.Prelude.{◌≡◌, IfOk};
 ghost use Rattle.tx_journal.specs.Entries.{history_of};
 ghost use Rattle.tx_journal.specs.Sessions.{made_of, position_of, start_of, IsBetween, SameJournal};
 ghost use Rattle.tx_journal.specs.Trials.{answer_there};
-ghost use Rattle.tx_script.specs.Debug.{command_answer, position_after};
+ghost use Rattle.tx_script.specs.Debug.{position_after};
 ghost use Rattle.tx_shell.specs.Answers.{last_why, IsAnswer, StopsShort, Walks};
 ghost use Rattle.tx_shell.specs.Places.{place_of};
 ghost use Rattle.tx_shell.specs.Forms.{IsPlaced};
@@ -20,16 +20,14 @@ use tx_base::{NoMemory, Reply, Step};
 use tx_explain::session_page;
 use tx_journal::Session;
 use tx_lines::Command;
-use tx_script::put_answer;
+use tx_script::Response;
 
 /// What is answered to what is asked for. It is printed with the session at the position to which that
 /// led: the state, the steps and the position are printed from there.
 #[derive(Drop)]
 pub enum Answer {
-    /// The lines that the debugger answers.
-    Walked(String),
-    /// The state.
-    State,
+    /// What a command of the debugger responds.
+    Walked(Response),
     /// The position.
     Position,
     /// The steps from one number to another, and the position among them.
@@ -106,28 +104,8 @@ fn walk(alloc: Global, session: &mut Session, command: Command) -> Result<Answer
         (position_after (history_of session.old.entries) (position_of session.old) command) }
     ensures journal { SameJournal session.new session.old }
 {
-    match command {
-        Command::State => Ok(Answer::State),
-        command => Ok(Answer::Walked(walked(alloc, session, command)?)),
-    }
-}
-
-/// Does what a command of the debugger says, and gives the lines that it answers.
-fn walked(alloc: Global, session: &mut Session, command: Command) -> Result<String, NoMemory>
-    ensures told { IfOk result (λ text. string_bytes text ≡ command_answer (start_of session.old)
-        (history_of session.old.entries) (position_of session.old) command) }
-    ensures moved { OnOk result (position_of session.new
-        ≡ position_after (history_of session.old.entries) (position_of session.old) command) }
-    ensures between { IsBetween (position_of session.old) (position_of session.new)
-        (position_after (history_of session.old.entries) (position_of session.old) command) }
-    ensures journal { SameJournal session.new session.old }
-{
     reserve_walk(session, command);
-    let mut text = String::new(alloc);
-    match put_answer(alloc, &mut text, session, command) {
-        Ok(()) => Ok(text),
-        Err(_refused) => Err(NoMemory),
-    }
+    Ok(Answer::Walked(tx_script::walk(alloc, session, command)?))
 }
 
 /// Why a step would be refused at the position, or what it would be answered.

@@ -25,8 +25,9 @@ use tx_base::{NoMemory, Pid, Reply, Step};
 use tx_journal::Session;
 use tx_json::{
     Holder, LineWriter, begin_lines, end_answer, position_answer, put_count, put_holders, put_null,
-    put_reply, state_answer, trial_answer,
+    put_reply, trial_answer,
 };
+use tx_script::response_line;
 
 /// The line of an answer.
 ///
@@ -44,11 +45,10 @@ pub fn answer_line(
 {
     let position = session.position();
     match answer {
-        Answer::State => state_answer(alloc, position, session.machine()),
+        Answer::Walked(response) => response_line(alloc, session, response),
         Answer::Position => position_answer(alloc, position),
         Answer::Trial(reply, lines) => trial_answer(alloc, position, reply, lines.as_str()),
-        Answer::Walked(_)
-        | Answer::Steps(..)
+        Answer::Steps(..)
         | Answer::Schedule
         | Answer::Without(..)
         | Answer::Change(_)
@@ -100,7 +100,6 @@ fn put_members(
         Answer::Owners => put_owners(writer, session.machine()),
         Answer::OwnersOf(starter) => put_owner_alone(writer, session.machine(), Pid(*starter)),
         Answer::Walked(_)
-        | Answer::State
         | Answer::Position
         | Answer::Schedule
         | Answer::Trial(..)

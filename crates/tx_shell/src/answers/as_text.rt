@@ -1,7 +1,8 @@
 //! Prints an answer as text.
 ghost use Rattle.std.specs.Prelude.{◌≡◌, ◌++◌, ◌∷◌, IfOk, string_bytes};
 ghost use Rattle.tx_journal.specs.Entries.{history_of};
-ghost use Rattle.tx_journal.specs.Sessions.{made_of, position_of};
+ghost use Rattle.tx_journal.specs.Sessions.{made_of, position_of, start_of};
+ghost use Rattle.tx_script.specs.Debug.{responded_in, response_text};
 ghost use Rattle.tx_shell.specs.Places.{origin_of, place_of};
 ghost use Rattle.tx_shell.specs.Forms.{IsPlaced, TellsAnswer};
 ghost use Rattle.tx_text.specs.Replies.{named_reply_text};
@@ -17,6 +18,7 @@ use std::alloc::Global;
 use std::fmt::Write;
 use tx_base::{NoMemory, Reply};
 use tx_journal::Session;
+use tx_script::{Response, put_response};
 use tx_text::put_named_reply;
 
 /// The lines of an answer.
@@ -34,8 +36,7 @@ pub fn answer_text(
         (string_bytes text)) }
 {
     match answer {
-        Answer::Walked(lines) => text_as(alloc, lines.as_str()),
-        Answer::State => session.state_text(alloc),
+        Answer::Walked(response) => response_text(alloc, session, response),
         Answer::Position => position_line(alloc, session.position()),
         Answer::Steps(first, last) => list_steps(alloc, session, *first, *last),
         Answer::Schedule => print_schedule(alloc, version, session),
@@ -49,6 +50,16 @@ pub fn answer_text(
         Answer::OwnersOf(starter) => list_owner(alloc, session, *starter),
         Answer::Page(page) => text_as(alloc, page),
     }
+}
+
+/// What a command of the debugger responds.
+fn response_text(alloc: Global, session: &Session, response: &Response) -> Result<String, NoMemory>
+    ensures { IfOk result (λ text. string_bytes text ≡ response_text (start_of session.now)
+        (history_of session.now.entries) (position_of session.now) (responded_in response.now)) }
+{
+    let mut text = String::new(alloc);
+    put_response(&mut text, session, response)?;
+    Ok(text)
 }
 
 /// The reply that a step would get, and the lines by which the state would differ.

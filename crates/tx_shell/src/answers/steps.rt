@@ -5,12 +5,12 @@ ghost use Rattle.tx_shell.specs.Answers.{AnswersStep, MakesStep};
 ghost use Rattle.tx_shell.specs.Places.{place_of};
 ghost use Rattle.tx_text.specs.Replies.{named_reply_text};
 
-use crate::answers::forms::Form;
+use crate::answers::forms::{put_ahead, put_reply};
 use std::alloc::{AllocError, Global};
 use tx_base::{ABORTED_BY_CALL, NoMemory, Reply, Step};
 use tx_journal::Session;
 use tx_lines::put;
-use tx_script::WORKER;
+use tx_script::{Form, WORKER};
 use tx_text::put_named_reply;
 
 /// Makes a step at the end of the journal, puts its reply where it is to stand, and the line of that in place
@@ -37,7 +37,7 @@ pub fn answer_step(
     if session.position() == session.len() {
         return make_step(alloc, form, session, step, reply, text);
     }
-    form.put_ahead(alloc, text)
+    put_ahead(alloc, form, text)
 }
 
 /// Makes a step at the end of the journal, puts its reply where it is to stand, and the line of that in place
@@ -67,7 +67,7 @@ fn make_step(
     if reply.wants_memory() {
         return Err(NoMemory);
     }
-    match form.put_reply(alloc, session.len(), reply, text) {
+    match put_reply(alloc, form, session.len(), reply, text) {
         Ok(()) => Ok(()),
         Err(NoMemory) => {
             take_back(session, count);

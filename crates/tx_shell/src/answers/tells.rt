@@ -3,12 +3,12 @@ ghost use Rattle.std.specs.Prelude.{IfOk, string_bytes};
 ghost use Rattle.tx_check.specs.Sessions.{IsSessionTold};
 ghost use Rattle.tx_shell.specs.Forms.{TellsIn, TellsOf};
 
-use crate::answers::forms::Form;
 use crate::lines::versions::TextVersion;
 use std::alloc::Global;
 use tx_base::NoMemory;
 use tx_check::session_line;
 use tx_json::error_answer;
+use tx_script::Form;
 
 /// What is wrong with a line of that version, in a form.
 ///

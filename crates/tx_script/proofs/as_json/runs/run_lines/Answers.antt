@@ -14,7 +14,7 @@ returns-clause-text c =
     let k = c.args.session.now in
     let last : List Token = command_line (start_of k) (history_of k.entries) (position_of k) commands.State in
     let entries : List (List Token) = entry_lines 1 k.entries in
-    c.in_ok-put_state.ensures.text
+    c.in_ok-put_line.ensures
     ∙ ap (λ (t : List ℕ). t ++ line_of last) (c.in_ok-put_entries.ensures.text
     ∙ ap (λ (t : List ℕ). t ++ text_of (entry_lines 1 c.entries.result.now)) c.new-text.ensures.bytes
     ∙ ap (λ (xs : List Entry). text_of (entry_lines 1 xs)) c.entries.ensures)

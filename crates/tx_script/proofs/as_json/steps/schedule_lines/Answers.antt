@@ -11,6 +11,6 @@ returns-clause-text c =
     let told = c.in_ok-put_replies.ensures in
     let header = c.args.schedule.now.header in
     schedule_whole (start_state header) c.as_slice.result.now c.in_ok-session.session c.reserve.new.self c.put_replies.new.session
-    (string_bytes c.new-text.result) (string_bytes c.put_replies.new.text) (string_bytes c.put_state.new.text) (λ j. boot_state (c.in_ok-session.ensures.width j) (c.in_ok-session.ensures.count j)) c.in_ok-session.ensures.entries c.reserve.ensures c.new-text.ensures.bytes
-    told.text told.history told.boot told.at_end c.in_ok-put_state.ensures.text
+    (string_bytes c.new-text.result) (string_bytes c.put_replies.new.text) (string_bytes c.put_line.new.text) (λ j. boot_state (c.in_ok-session.ensures.width j) (c.in_ok-session.ensures.count j)) c.in_ok-session.ensures.entries c.reserve.ensures c.new-text.ensures.bytes
+    told.text told.history told.boot told.at_end c.in_ok-put_line.ensures
     ∙ ap (λ (steps : List Step). text_of (schedule_lines header steps)) c.as_slice.ensures.value

@@ -1,4 +1,4 @@
-use Rattle.std.proofs.Common.{◌≡◌, ℕ, List, Option, [], ◌∷◌, ◌++◌, ◌∙◌, ap, append_assoc, codes, string_bytes, subst, sym}
+use Rattle.std.proofs.Common.{ℕ, List, Option, [], ◌∷◌, ◌++◌, ◌∙◌, ap, append_assoc, codes, string_bytes, subst, sym}
 use Rattle.std.specs.Fmt.{decimal}
 use Rattle.tx_journal.specs.Entries.{accepted_of, entry_at, history_of}
 use Rattle.tx_journal.specs.Sessions.{position_of}
