@@ -71,10 +71,8 @@ picture: draws what the steps of a schedule did, as a picture in SVG.
         text: "\
 shell: answers steps and commands, each line before it reads the next.
   form     txos shell, or txos shell --json for answers in JSON
-  lines    a step of a schedule; back, forward, goto K, state, moved K as debug
-           has them; goto end, steps, steps K, steps K L, text, try STEP,
-           without S, why, why STEP, owns, owns S, when PIECE, next PIECE, cut,
-           help, help WORD, quit; and before all others a header, if any
+  lines    a step of a schedule; a command of the debugger or of the shell, as
+           the line help lists them; and before all others a header, if any
            Each command has a page: help when
   writes   the reply, the answer, or what is wrong with the line
   example  txos shell
