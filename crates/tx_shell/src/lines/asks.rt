@@ -76,27 +76,24 @@ pub fn read_ask(version: Version, line: &[u8]) -> Option<Ask<'_>>
         return read_steps(numbers);
     }
     if let Some(words) = behind(b"try ", line) {
-        return read_try(version, words);
+        return Some(Ask::Try(read_step(version, words)?));
     }
     if let Some(words) = behind(b"when ", line) {
-        return read_when(words);
+        return Some(Ask::When(read_piece(words)?));
     }
     if let Some(words) = behind(b"next ", line) {
-        return read_next(words);
+        return Some(Ask::Next(read_piece(words)?));
     }
     if let Some(words) = behind(b"why ", line) {
-        return read_why(version, words);
+        return Some(Ask::Why(read_step(version, words)?));
     }
     if let Some(word) = behind(b"without ", line) {
-        return read_without(word);
+        return Some(Ask::Without(read_starter(word)?));
     }
     if let Some(word) = behind(b"owns ", line) {
-        return read_owns(word);
+        return Some(Ask::OwnsOf(read_starter(word)?));
     }
-    match behind(b"help ", line) {
-        Some(word) => Some(Ask::HelpOn(word)),
-        None => None,
-    }
+    Some(Ask::HelpOn(behind(b"help ", line)?))
 }
 
 /// What follows that front of a line. Nothing where the line does not begin so.
@@ -154,72 +151,13 @@ fn read_steps(numbers: &[u8]) -> Option<Ask<'static>>
     }
 }
 
-/// The step that is to be tried.
-fn read_try(version: Version, words: &[u8]) -> Option<Ask<'static>>
-    ensures found { IfSome result (λ ask. codes "try " ++ words.now ≡ ask_text ask) }
-    ensures fits { IfSome result (FitsAsk version) }
-    ensures none { result ≡ None → IsNoStep version words.now }
-{
-    match read_step(version, words) {
-        Some(step) => Some(Ask::Try(step)),
-        None => None,
-    }
-}
-
-/// The piece whose last change is asked for.
-fn read_when(words: &[u8]) -> Option<Ask<'static>>
-    ensures found { IfSome result (λ ask. codes "when " ++ words.now ≡ ask_text ask) }
-    ensures fits { (version : TheVersion) → IfSome result (FitsAsk version) }
-    ensures none { result ≡ None → IsNoPiece words.now }
-{
-    match read_piece(words) {
-        Some(piece) => Some(Ask::When(piece)),
-        None => None,
-    }
-}
-
-/// The piece whose next change is asked for.
-fn read_next(words: &[u8]) -> Option<Ask<'static>>
-    ensures found { IfSome result (λ ask. codes "next " ++ words.now ≡ ask_text ask) }
-    ensures fits { (version : TheVersion) → IfSome result (FitsAsk version) }
-    ensures none { result ≡ None → IsNoPiece words.now }
-{
-    match read_piece(words) {
-        Some(piece) => Some(Ask::Next(piece)),
-        None => None,
-    }
-}
-
-/// The step of which it is to be told why it would be refused.
-fn read_why(version: Version, words: &[u8]) -> Option<Ask<'static>>
-    ensures found { IfSome result (λ ask. codes "why " ++ words.now ≡ ask_text ask) }
-    ensures fits { IfSome result (FitsAsk version) }
-    ensures none { result ≡ None → IsNoStep version words.now }
-{
-    match read_step(version, words) {
-        Some(step) => Some(Ask::Why(step)),
-        None => None,
-    }
-}
-
-/// The transaction of whose starter the state is to be printed without.
-fn read_without(word: &[u8]) -> Option<Ask<'static>>
-    ensures found { IfSome result (λ ask. codes "without " ++ word.now ≡ ask_text ask) }
-    ensures fits { (version : TheVersion) → IfSome result (FitsAsk version) }
+/// The starter whose number a word spells.
+fn read_starter(word: &[u8]) -> Option<u16>
+    ensures found { IfSome result (λ starter. word.now ≡ decimal starter) }
     ensures none { result ≡ None → (starter : ℕ) → starter < 2 ^ 16 → word.now ≢ decimal starter }
 {
     let Pid(starter) = read_pid(word)?;
-    Some(Ask::Without(starter))
-}
-
-/// The transaction of whose starter it is to be told what it has reserved.
-fn read_owns(word: &[u8]) -> Option<Ask<'static>>
-    ensures found { IfSome result (λ ask. codes "owns " ++ word.now ≡ ask_text ask) }
-    ensures fits { (version : TheVersion) → IfSome result (FitsAsk version) }
-    ensures none { result ≡ None → (starter : ℕ) → starter < 2 ^ 16 → word.now ≢ decimal starter }
-{
-    let Pid(starter) = read_pid(word)?;
-    Some(Ask::OwnsOf(starter))
+    Some(starter)
 }
 
 /// The two numbers that a text spells with a space between them. Nothing where it is another text.

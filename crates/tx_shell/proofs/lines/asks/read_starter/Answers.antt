@@ -1,6 +1,6 @@
 use Rattle.std.proofs.lemmas.Option.{none-some}
 use Rattle.tx_base.specs.declared.names.Pid.{Pid}
-use Rattle.tx_shell.proofs.lines.asks.read_owns.Goals as goal
+use Rattle.tx_shell.proofs.lines.asks.read_starter.Goals as goal
 
 pub returns-in_err-starter-clause-none : goal.returns-in_err-starter-clause-none
 returns-in_err-starter-clause-none c none starter small spelled =
