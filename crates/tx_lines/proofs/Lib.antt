@@ -8,6 +8,7 @@ pub mod Heading
 pub mod Leading
 pub mod LineEnds
 pub mod LineWords
+pub mod MoreWords
 pub mod PlainWords
 pub mod ProgramLines
 pub mod ProgramParts

@@ -1,11 +1,12 @@
 -- The lines of a schedule, and the first line of each text: one spelling for each header and each step.
-use Rattle.std.specs.Prelude.{ℕ, ◌<◌, ◌≤◌, ◌^◌, List, ◌∷◌, ◌++◌, codes}
+use Rattle.std.specs.Prelude.{◌≡◌, ℕ, ◌<◌, ◌≤◌, ◌^◌, List, ◌∷◌, ◌++◌, Option, Some, codes}
 use Rattle.std.specs.Fmt.{decimal}
 use Rattle.tx_base.specs.declared.steps.Call.{Call}
 use Rattle.tx_base.specs.declared.steps.Call.TheVariants.{SysXbeginDefer}
 use Rattle.tx_base.specs.declared.steps.Step.{Step}
 use Rattle.tx_base.specs.declared.steps.Step.TheVariants as steps
-use Rattle.tx_lines.specs.Calls.{call_text, FitsCall}
+use Rattle.tx_lines.specs.Calls.{call_text, group_of, FitsCall}
+use Rattle.tx_lines.specs.Words.{first_word}
 use Rattle.tx_lines.specs.declared.read.header.Version.{Version}
 use Rattle.tx_lines.specs.declared.read.header.Version.TheVariants.{One, Two}
 use Rattle.tx_lines.specs.declared.read.header.Header.{Header}
@@ -39,6 +40,14 @@ abbrev pub IsOf : Version → Step → Type 0
 IsOf version (steps.Call pid call) = IsCallOf version call
 IsOf version (steps.Deliver pid signo) = Unit {0}
 IsOf version (steps.KernelAbort starter) = Unit {0}
+
+-- the text spells the call, and a text of that version can hold it
+abbrev pub SpellsCall : Version → List ℕ → Call → Type 0
+SpellsCall version text c = (text ≡ call_text c) × FitsCall c × IsCallOf version c
+
+-- each call of a group or a later one that has that name and those arguments was read
+abbrev pub ReadsNamed : Version → ℕ → List ℕ × List ℕ → Option Call → Type 0
+ReadsNamed version group parts read = (c : Call) → FitsCall c → IsCallOf version c → group ≤ group_of c → first_word (call_text c) ≡ Some parts → read ≡ Some c
 
 -- the most processes that a text of a version begins with
 abbrev pub most_of : Version → ℕ

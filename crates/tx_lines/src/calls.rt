@@ -1,19 +1,20 @@
 //! The table of calls: how a call of each name is read, how each is printed, and where its numbers
 //! stand. Arguments that are more than numbers are read and printed beside it, by groups.
-ghost use Rattle.std.specs.Prelude.{◌≡◌, ◌≤◌, ◌++◌, ◌∷◌, IfSome, None, OnOk, Some, string_bytes};
+ghost use Rattle.std.specs.Prelude.{◌≡◌, ◌≤◌, ◌++◌, ◌∷◌, IfSome, None, OnOk, Some, map, string_bytes};
+ghost use Rattle.std.specs.Fmt.{signed_decimal};
 ghost use Rattle.std.specs.Bool.{then_some};
 ghost use Rattle.tx_base.specs.declared.steps.Call.{Call};
 ghost use Rattle.tx_lines.specs.Calls.{call_text, group_of, with_numbers, FitsCall};
 ghost use Rattle.tx_lines.specs.Filled.{number_at};
-ghost use Rattle.tx_lines.specs.Lines.{IsCallOf};
-ghost use Rattle.tx_lines.specs.Words.{first_word};
+ghost use Rattle.tx_lines.specs.Lines.{IsCallOf, ReadsNamed, SpellsCall};
+ghost use Rattle.tx_lines.specs.Words.{first_word, joined};
 ghost use Rattle.tx_lines.specs.declared.read.header.Version.{Version};
 
 use crate::filling::Numbers;
 use crate::print::arguments::{access, put_action, put_when, switch, waiting, way};
 use crate::print::bytes::put_digits;
 use crate::print::members::put_set;
-use crate::print::words;
+use crate::print::words::{self, put_count_first};
 use crate::read::calls::place::put;
 use crate::read::calls::{descriptors, memory, processes, script, signals, transfers};
 use crate::read::header::Version;
@@ -26,13 +27,9 @@ use tx_base::{Call, When};
 /// The call on memory of that name and with those arguments, or one that a later group has. Nothing
 /// where none is spelled so.
 pub fn memory_call(version: Version, name: &[u8], arguments: &[u8], call: &mut Call) -> bool
-    ensures found { IfSome (then_some result call.new) (λ c.
-        name.now ++ 32 ∷ arguments.now ≡ call_text c) }
-    ensures fits { IfSome (then_some result call.new) FitsCall }
-    ensures within { IfSome (then_some result call.new) (IsCallOf version) }
-    ensures only { (c : Call) → FitsCall c → IsCallOf version c → 1 ≤ group_of c →
-        first_word (call_text c) ≡ Some (name.now, arguments.now) →
-        then_some result call.new ≡ Some c }
+    ensures found { IfSome (then_some result call.new)
+        (SpellsCall version (name.now ++ 32 ∷ arguments.now)) }
+    ensures only { ReadsNamed version 1 (name.now, arguments.now) (then_some result call.new) }
 {
     match name {
         b"map" => put(call, number(arguments).map(Call::Map)),
@@ -45,13 +42,9 @@ pub fn memory_call(version: Version, name: &[u8], arguments: &[u8], call: &mut C
 /// The call on processes of that name and with those arguments, or one that a later group has.
 /// Nothing where none is spelled so.
 fn process_call(version: Version, name: &[u8], arguments: &[u8], call: &mut Call) -> bool
-    ensures found { IfSome (then_some result call.new) (λ c.
-        name.now ++ 32 ∷ arguments.now ≡ call_text c) }
-    ensures fits { IfSome (then_some result call.new) FitsCall }
-    ensures within { IfSome (then_some result call.new) (IsCallOf version) }
-    ensures only { (c : Call) → FitsCall c → IsCallOf version c → 2 ≤ group_of c →
-        first_word (call_text c) ≡ Some (name.now, arguments.now) →
-        then_some result call.new ≡ Some c }
+    ensures found { IfSome (then_some result call.new)
+        (SpellsCall version (name.now ++ 32 ∷ arguments.now)) }
+    ensures only { ReadsNamed version 2 (name.now, arguments.now) (then_some result call.new) }
 {
     match name {
         b"fork" => put(call, read_pid(arguments).map(Call::Fork)),
@@ -64,13 +57,9 @@ fn process_call(version: Version, name: &[u8], arguments: &[u8], call: &mut Call
 /// The call on ids of that name and with those arguments, or one that a later group has. Nothing
 /// where none is spelled so.
 fn id_call(version: Version, name: &[u8], arguments: &[u8], call: &mut Call) -> bool
-    ensures found { IfSome (then_some result call.new) (λ c.
-        name.now ++ 32 ∷ arguments.now ≡ call_text c) }
-    ensures fits { IfSome (then_some result call.new) FitsCall }
-    ensures within { IfSome (then_some result call.new) (IsCallOf version) }
-    ensures only { (c : Call) → FitsCall c → IsCallOf version c → 3 ≤ group_of c →
-        first_word (call_text c) ≡ Some (name.now, arguments.now) →
-        then_some result call.new ≡ Some c }
+    ensures found { IfSome (then_some result call.new)
+        (SpellsCall version (name.now ++ 32 ∷ arguments.now)) }
+    ensures only { ReadsNamed version 3 (name.now, arguments.now) (then_some result call.new) }
 {
     match name {
         b"setuid" => put(call, number(arguments).map(Call::Setuid)),
@@ -84,13 +73,9 @@ fn id_call(version: Version, name: &[u8], arguments: &[u8], call: &mut Call) -> 
 /// The call on descriptors of that name and with those arguments, or one that a later group has.
 /// Nothing where none is spelled so.
 fn descriptor_call(version: Version, name: &[u8], arguments: &[u8], call: &mut Call) -> bool
-    ensures found { IfSome (then_some result call.new) (λ c.
-        name.now ++ 32 ∷ arguments.now ≡ call_text c) }
-    ensures fits { IfSome (then_some result call.new) FitsCall }
-    ensures within { IfSome (then_some result call.new) (IsCallOf version) }
-    ensures only { (c : Call) → FitsCall c → IsCallOf version c → 4 ≤ group_of c →
-        first_word (call_text c) ≡ Some (name.now, arguments.now) →
-        then_some result call.new ≡ Some c }
+    ensures found { IfSome (then_some result call.new)
+        (SpellsCall version (name.now ++ 32 ∷ arguments.now)) }
+    ensures only { ReadsNamed version 4 (name.now, arguments.now) (then_some result call.new) }
 {
     if name == b"pipe".as_slice() {
         return put(call, descriptors::pipe(arguments));
@@ -113,13 +98,9 @@ fn descriptor_call(version: Version, name: &[u8], arguments: &[u8], call: &mut C
 /// The call that moves bytes of that name and with those arguments, or one that a later group has.
 /// Nothing where none is spelled so.
 fn transfer_call(version: Version, name: &[u8], arguments: &[u8], call: &mut Call) -> bool
-    ensures found { IfSome (then_some result call.new) (λ c.
-        name.now ++ 32 ∷ arguments.now ≡ call_text c) }
-    ensures fits { IfSome (then_some result call.new) FitsCall }
-    ensures within { IfSome (then_some result call.new) (IsCallOf version) }
-    ensures only { (c : Call) → FitsCall c → IsCallOf version c → 5 ≤ group_of c →
-        first_word (call_text c) ≡ Some (name.now, arguments.now) →
-        then_some result call.new ≡ Some c }
+    ensures found { IfSome (then_some result call.new)
+        (SpellsCall version (name.now ++ 32 ∷ arguments.now)) }
+    ensures only { ReadsNamed version 5 (name.now, arguments.now) (then_some result call.new) }
 {
     match name {
         b"read" => put(call, transfers::read(arguments)),
@@ -131,13 +112,9 @@ fn transfer_call(version: Version, name: &[u8], arguments: &[u8], call: &mut Cal
 /// The call on signals of that name and with those arguments, or one that a later group has. Nothing
 /// where none is spelled so.
 fn signal_call(version: Version, name: &[u8], arguments: &[u8], call: &mut Call) -> bool
-    ensures found { IfSome (then_some result call.new) (λ c.
-        name.now ++ 32 ∷ arguments.now ≡ call_text c) }
-    ensures fits { IfSome (then_some result call.new) FitsCall }
-    ensures within { IfSome (then_some result call.new) (IsCallOf version) }
-    ensures only { (c : Call) → FitsCall c → IsCallOf version c → 6 ≤ group_of c →
-        first_word (call_text c) ≡ Some (name.now, arguments.now) →
-        then_some result call.new ≡ Some c }
+    ensures found { IfSome (then_some result call.new)
+        (SpellsCall version (name.now ++ 32 ∷ arguments.now)) }
+    ensures only { ReadsNamed version 6 (name.now, arguments.now) (then_some result call.new) }
 {
     if name == b"kill".as_slice() {
         return put(call, signals::kill(arguments));
@@ -157,13 +134,9 @@ fn signal_call(version: Version, name: &[u8], arguments: &[u8], call: &mut Call)
 /// The call of a script or on the console of that name and with those arguments. Nothing where none is
 /// spelled so.
 fn script_call(version: Version, name: &[u8], arguments: &[u8], call: &mut Call) -> bool
-    ensures found { IfSome (then_some result call.new) (λ c.
-        name.now ++ 32 ∷ arguments.now ≡ call_text c) }
-    ensures fits { IfSome (then_some result call.new) FitsCall }
-    ensures within { IfSome (then_some result call.new) (IsCallOf version) }
-    ensures only { (c : Call) → FitsCall c → IsCallOf version c → 7 ≤ group_of c →
-        first_word (call_text c) ≡ Some (name.now, arguments.now) →
-        then_some result call.new ≡ Some c }
+    ensures found { IfSome (then_some result call.new)
+        (SpellsCall version (name.now ++ 32 ∷ arguments.now)) }
+    ensures only { ReadsNamed version 7 (name.now, arguments.now) (then_some result call.new) }
 {
     if name == b"console_write".as_slice() {
         return put(call, script::console_write(arguments));
@@ -207,28 +180,29 @@ pub fn put_call(text: &mut String, call: &Call) -> Result<(), AllocError>
     ensures { OnOk result (string_bytes text.new ≡ string_bytes text.old ++ call_text call.now) }
 {
     match call {
-        Call::Map(page) => write!(text, "map {page}"),
-        Call::Unmap(page) => write!(text, "unmap {page}"),
+        Call::Map(page) => put_named(text, "map", &[*page]),
+        Call::Unmap(page) => put_named(text, "unmap", &[*page]),
         Call::Protect(page, writable) => write!(text, "protect {page} {}", access(*writable)),
         Call::Store(address, bytes) => {
-            write!(text, "store {address} ")?;
+            put_named(text, "store", &[*address])?;
+            words::put(text, " ")?;
             put_digits(text, bytes.as_slice())
         }
-        Call::Load(address) => write!(text, "load {address}"),
+        Call::Load(address) => put_named(text, "load", &[*address]),
         Call::Fork(child) => write!(text, "fork {}", child.0),
-        Call::Exit(status) => write!(text, "exit {status}"),
+        Call::Exit(status) => put_named(text, "exit", &[*status]),
         Call::Waitpid(target, nohang) => write!(text, "waitpid {target} {}", waiting(*nohang)),
-        Call::Setuid(id) => write!(text, "setuid {id}"),
-        Call::Seteuid(id) => write!(text, "seteuid {id}"),
-        Call::Setgid(id) => write!(text, "setgid {id}"),
-        Call::Setegid(id) => write!(text, "setegid {id}"),
+        Call::Setuid(id) => put_named(text, "setuid", &[*id]),
+        Call::Seteuid(id) => put_named(text, "seteuid", &[*id]),
+        Call::Setgid(id) => put_named(text, "setgid", &[*id]),
+        Call::Setegid(id) => put_named(text, "setegid", &[*id]),
         Call::Pipe(pipe, read, write) => { write!(text, "pipe {} {} {}", pipe.0, read.0, write.0) }
-        Call::Dup(fd) => write!(text, "dup {fd}"),
-        Call::Dup2(from, to) => write!(text, "dup2 {from} {to}"),
-        Call::Close(fd) => write!(text, "close {fd}"),
+        Call::Dup(fd) => put_named(text, "dup", &[*fd]),
+        Call::Dup2(from, to) => put_named(text, "dup2", &[*from, *to]),
+        Call::Close(fd) => put_named(text, "close", &[*fd]),
         Call::SetNonblock(fd, on) => write!(text, "set_nonblock {fd} {}", switch(*on)),
-        Call::Read(fd, address, count) => write!(text, "read {fd} {address} {count}"),
-        Call::Write(fd, address, count) => write!(text, "write {fd} {address} {count}"),
+        Call::Read(fd, address, count) => put_named(text, "read", &[*fd, *address, *count]),
+        Call::Write(fd, address, count) => put_named(text, "write", &[*fd, *address, *count]),
         Call::SysXbegin => words::put(text, "sys_xbegin"),
         Call::SysXbeginDefer => words::put(text, "sys_xbegin defer"),
         Call::SysXend => words::put(text, "sys_xend"),
@@ -244,10 +218,13 @@ fn put_other_call(text: &mut String, call: &Call) -> Result<(), AllocError>
     ensures { OnOk result (string_bytes text.new ≡ string_bytes text.old ++ call_text call.now) }
 {
     match call {
-        Call::Kill(target, signo) => write!(text, "kill {target} {signo}"),
-        Call::Sigqueue(target, signo, value) => write!(text, "sigqueue {target} {signo} {value}"),
+        Call::Kill(target, signo) => put_named(text, "kill", &[*target, *signo]),
+        Call::Sigqueue(target, signo, value) => {
+            put_named(text, "sigqueue", &[*target, *signo, *value])
+        }
         Call::Sigaction(signo, action) => {
-            write!(text, "sigaction {signo} ")?;
+            put_named(text, "sigaction", &[*signo])?;
+            words::put(text, " ")?;
             put_action(text, *action)
         }
         Call::Sigprocmask(how, set) => {
@@ -256,16 +233,30 @@ fn put_other_call(text: &mut String, call: &Call) -> Result<(), AllocError>
         }
         Call::ConsoleWrite(address, count) => write!(text, "console_write {address} {count}"),
         Call::Jump(point, when) => {
-            write!(text, "jump {point} ")?;
+            words::put(text, "jump ")?;
+            put_count_first(text, u64::from(*point))?;
             put_when(text, *when)
         }
-        Call::Keep(slot) => write!(text, "keep {slot}"),
+        Call::Keep(slot) => put_named(text, "keep", &[*slot]),
         Call::Getpid => words::put(text, "getpid"),
         Call::Getppid => words::put(text, "getppid"),
         Call::Sigpending => words::put(text, "sigpending"),
         Call::Sigreturn => words::put(text, "sigreturn"),
         _ => Ok(()), // each other call is of an earlier group
     }
+}
+
+/// Appends the name of a call, and its numbers with a space before each.
+fn put_named(text: &mut String, name: &str, numbers: &[i64]) -> Result<(), AllocError>
+    ensures { OnOk result (string_bytes text.new ≡
+        string_bytes text.old ++ joined name.now (map signed_decimal numbers.now)) }
+{
+    words::put(text, name)?;
+    for number in numbers {
+        words::put(text, " ")?;
+        words::put_number(text, *number)?;
+    }
+    Ok(())
 }
 
 impl Numbers<'_> {

@@ -52,7 +52,8 @@ pub fn put_count_first(text: &mut String, count: u64) -> Result<(), AllocError>
     ensures { OnOk result
         (string_bytes text.new ≡ string_bytes text.old ++ (decimal count ++ 32 ∷ [])) }
 {
-    write!(text, "{count} ")
+    put_count(text, count)?;
+    put(text, " ")
 }
 
 /// Appends a byte, as two lower-case hex digits.

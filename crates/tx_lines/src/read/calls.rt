@@ -3,7 +3,7 @@ ghost use Rattle.std.specs.Prelude.{◌≡◌, ◌≤◌, IfSome, Some};
 ghost use Rattle.std.specs.Bool.{then_some};
 ghost use Rattle.tx_base.specs.declared.steps.Call.{Call};
 ghost use Rattle.tx_lines.specs.Calls.{call_text, group_of, FitsCall};
-ghost use Rattle.tx_lines.specs.Lines.{IsCallOf};
+ghost use Rattle.tx_lines.specs.Lines.{IsCallOf, SpellsCall};
 ghost use Rattle.tx_lines.specs.declared.read.header.Version.{Version};
 
 pub mod descriptors;
@@ -28,9 +28,7 @@ use tx_base::Call;
 /// The calls that schedules have most are told by their fronts, with no search for a first word.
 #[inline(always)] // it has few callers, and each line of a schedule asks it
 pub fn read_call(version: Version, text: &[u8], call: &mut Call) -> bool
-    ensures found { IfSome (then_some result call.new) (λ c. text.now ≡ call_text c) }
-    ensures fits { IfSome (then_some result call.new) FitsCall }
-    ensures within { IfSome (then_some result call.new) (IsCallOf version) }
+    ensures found { IfSome (then_some result call.new) (SpellsCall version text.now) }
     ensures only { (c : Call) → FitsCall c → IsCallOf version c → text.now ≡ call_text c →
         then_some result call.new ≡ Some c }
 {
@@ -49,9 +47,7 @@ pub fn read_call(version: Version, text: &[u8], call: &mut Call) -> bool
 /// As `read_call`, where the call is none of those that are told by the front of their text.
 #[inline(always)] // `read_call` alone calls it; a call of its own costs 24
 fn named_call(version: Version, text: &[u8], call: &mut Call) -> bool
-    ensures found { IfSome (then_some result call.new) (λ c. text.now ≡ call_text c) }
-    ensures fits { IfSome (then_some result call.new) FitsCall }
-    ensures within { IfSome (then_some result call.new) (IsCallOf version) }
+    ensures found { IfSome (then_some result call.new) (SpellsCall version text.now) }
     ensures only { (c : Call) → FitsCall c → IsCallOf version c → 1 ≤ group_of c →
         text.now ≡ call_text c → then_some result call.new ≡ Some c }
 {

@@ -5,7 +5,7 @@ pub returns-in-SetNonblock : goal.returns-in-SetNonblock
 returns-in-SetNonblock c = rw (c.in-SetNonblock.is, sym c.switch.ensures) c.write-in-SetNonblock.ensures.bytes
 
 pub returns-in-SysXbegin : goal.returns-in-SysXbegin
-returns-in-SysXbegin c = rw c.in-SysXbegin.is c.put.ensures
+returns-in-SysXbegin c = rw c.in-SysXbegin.is c.put-in-SysXbegin.ensures
 
 pub returns-in-SysXbeginDefer : goal.returns-in-SysXbeginDefer
 returns-in-SysXbeginDefer c = rw c.in-SysXbeginDefer.is c.put-in-SysXbeginDefer.ensures

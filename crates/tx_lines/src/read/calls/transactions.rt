@@ -3,7 +3,7 @@ ghost use Rattle.std.specs.Prelude.{◌≡◌, ◌++◌, codes, IfSome, Some};
 ghost use Rattle.std.specs.Bool.{then_some};
 ghost use Rattle.tx_base.specs.declared.steps.Call.{Call};
 ghost use Rattle.tx_lines.specs.Calls.{call_text, FitsCall};
-ghost use Rattle.tx_lines.specs.Lines.{IsCallOf};
+ghost use Rattle.tx_lines.specs.Lines.{IsCallOf, SpellsCall};
 ghost use Rattle.tx_lines.specs.declared.read.header.Version.{Version};
 
 use crate::read::calls::place::put;
@@ -15,10 +15,8 @@ use tx_base::Call;
 /// whether one does.
 #[inline(always)] // as `store`
 pub fn transaction_call(version: Version, word: &[u8], call: &mut Call) -> bool
-    ensures found { IfSome (then_some result call.new) (λ c.
-        codes "sys_x" ++ word.now ≡ call_text c) }
-    ensures fits { IfSome (then_some result call.new) FitsCall }
-    ensures within { IfSome (then_some result call.new) (IsCallOf version) }
+    ensures found { IfSome (then_some result call.new)
+        (SpellsCall version (codes "sys_x" ++ word.now)) }
     ensures only { (c : Call) → IsCallOf version c → codes "sys_x" ++ word.now ≡ call_text c →
         then_some result call.new ≡ Some c }
 {
@@ -34,10 +32,8 @@ pub fn transaction_call(version: Version, word: &[u8], call: &mut Call) -> bool
 /// Puts the call that begins a transaction and whose text goes on so where it is to stand. Answers
 /// whether one does.
 fn begin(version: Version, rest: &[u8], call: &mut Call) -> bool
-    ensures found { IfSome (then_some result call.new) (λ c.
-        codes "sys_xbegin" ++ rest.now ≡ call_text c) }
-    ensures fits { IfSome (then_some result call.new) FitsCall }
-    ensures within { IfSome (then_some result call.new) (IsCallOf version) }
+    ensures found { IfSome (then_some result call.new)
+        (SpellsCall version (codes "sys_xbegin" ++ rest.now)) }
     ensures only { (c : Call) → IsCallOf version c → codes "sys_xbegin" ++ rest.now ≡ call_text c →
         then_some result call.new ≡ Some c }
 {
