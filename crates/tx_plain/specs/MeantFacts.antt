@@ -3,7 +3,7 @@ use Rattle.std.proofs.Common.{◌≡◌, ℕ, List, ap, subst, sym}
 use Rattle.tx_lines.specs.Schedule.{FaultsBy}
 use Rattle.tx_lines.specs.declared.faults.Fault.{Fault}
 use Rattle.tx_lines.specs.declared.faults.Fault.TheVariants.{NotALine, NoLabel, TooLong, Reader, Writer, NoMemory}
-use Rattle.tx_plain.specs.Meant.{bytes_of, fault_by, line_of, meant_of, IsMeantBy, IsOwnFault}
+use Rattle.tx_plain.specs.Meant.{bytes_of, fault_by, line_of, IsMeantBy, IsOwnFault}
 use Rattle.tx_plain.specs.declared.meant.Meant.{Meant}
 
 -- the fault of the text that is meant, told at the line of the text itself
@@ -27,13 +27,3 @@ own_fault IsFault text meant (TooLong line) found is fault told = subst (FaultsB
 own_fault IsFault text meant Reader found is fault told = absurd fault
 own_fault IsFault text meant Writer found is fault told = absurd fault
 own_fault IsFault text meant NoMemory found is fault told = subst (FaultsBy (IsOwnFault IsFault text)) (sym told) tt
-
--- a fault of the text is one of another kind, where each of the text that is meant is
-pub own_as : (IsOne IsOther : List ℕ → Fault → Type 0) (text : List ℕ) (fault : Fault) → ((meant : Fault) → IsOne (meant_of text) meant → IsOther (meant_of text) meant)
-    → FaultsBy (IsOwnFault IsOne text) fault → FaultsBy (IsOwnFault IsOther text) fault
-own_as IsOne IsOther text (NotALine line) every is = record { meant = is.meant; is_fault = every is.meant is.is_fault; own = is.own }
-own_as IsOne IsOther text (NoLabel line) every is = record { meant = is.meant; is_fault = every is.meant is.is_fault; own = is.own }
-own_as IsOne IsOther text (TooLong line) every is = record { meant = is.meant; is_fault = every is.meant is.is_fault; own = is.own }
-own_as IsOne IsOther text Reader every is = is
-own_as IsOne IsOther text Writer every is = is
-own_as IsOne IsOther text NoMemory every is = is

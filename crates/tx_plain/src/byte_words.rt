@@ -82,16 +82,7 @@ fn digits_of(word: &[u8]) -> &[u8]
 fn is_hex(digits: &[u8]) -> bool
     ensures { result ≡ is_hex digits.now }
 {
-    if digits.is_empty() {
-        return false;
-    }
-    if digits.len() > 128 {
-        return false;
-    }
-    if digits.len() % 2 == 1 {
-        return false;
-    }
-    are_hex_digits(digits)
+    !digits.is_empty() && digits.len() <= 128 && digits.len() % 2 == 0 && are_hex_digits(digits)
 }
 
 /// Whether all bytes are hex digits of either case.

@@ -51,13 +51,8 @@ impl<'a> MeantLines<'a> {
         ensures left { left_of result ≡ meant_of text.now }
         ensures own { OwnsFrom text.now 1 result }
     {
-        let stage = if is_third(text) {
-            Some(Stage::Heading)
-        } else {
-            None
-        };
         MeantLines {
-            stage,
+            stage: is_third(text).then_some(Stage::Heading),
             left: text,
             number: 1,
         }
@@ -79,6 +74,7 @@ impl<'a> MeantLines<'a> {
     }
 
     /// The first line, and those behind it. Nothing where none is left.
+    #[inline(always)] // lines that go by memory cost 60 instructions each
     pub fn split(self) -> Option<(OwnLine<'a>, MeantLines<'a>)>
         ensures none { IfNone result (left_of self.entry ≡ []) }
         ensures some { IfSome result (λ r. left_of self.entry ≢ []) }
@@ -98,6 +94,7 @@ impl<'a> MeantLines<'a> {
 
     /// The first line, and those behind it. An empty line without an end where none is left; its
     /// number is that after the last line.
+    #[inline(always)] // as `split`, which calls it
     pub fn cut(self) -> (OwnLine<'a>, MeantLines<'a>)
         ensures line { IsNextLine (left_of self.entry) result.0 (left_of result.1) }
         ensures end { IsFalse result.0.is_ended →
@@ -139,6 +136,7 @@ impl<'a> MeantLines<'a> {
     }
 
     /// The same in a text of version 3 that stands there.
+    #[inline(always)] // as `split`
     fn cut_third(self, stage: Stage) -> (OwnLine<'a>, MeantLines<'a>)
         requires { self.stage ≡ Some stage }
         ensures line { IsNextLine (left_of self.entry) result.0 (left_of result.1) }
@@ -256,11 +254,7 @@ impl<'a> OwnLine<'a> {
             return None;
         }
         let meaning = self.meaning(room);
-        if begins_so(b"label ", meaning) {
-            Some(meaning)
-        } else {
-            None
-        }
+        begins_so(b"label ", meaning).then_some(meaning)
     }
 
     /// Whether the line that it means is the one before commands. One that begins with another word is

@@ -39,10 +39,10 @@ impl Plain {
         if line == 0 {
             return 0;
         }
-        match self.numbers.get((line - 1) as usize) {
-            Some(number) => *number,
-            None => self.after,
-        }
+        self.numbers
+            .get((line - 1) as usize)
+            .copied()
+            .unwrap_or(self.after)
     }
 
     /// Appends what the person's next line means where a text stands so, by way of the room. After an

@@ -56,17 +56,13 @@ fn stage_after_heading(line: &[u8]) -> Stage
 fn kind_of(others: &[u8]) -> TextKind
     ensures { result ≡ kind_of (words_in others.now) }
 {
-    let Some((_, kinds)) = split_word(others) else {
-        return TextKind::Schedule;
-    };
-    let Some((kind, _)) = split_word(kinds) else {
-        return TextKind::Schedule;
-    };
-    if is(kind, b"program") {
-        TextKind::Program
-    } else {
-        TextKind::Schedule
+    if let Some((_, kinds)) = split_word(others)
+        && let Some((kind, _)) = split_word(kinds)
+        && is(kind, b"program")
+    {
+        return TextKind::Program;
     }
+    TextKind::Schedule
 }
 
 /// Appends the line of version 2 that a line means, by its first word and what follows that.

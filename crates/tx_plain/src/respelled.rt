@@ -22,6 +22,10 @@ use arrayvec::ArrayVec;
 use tx_base::{Call, Signo, Step};
 use tx_lines::{LINE_BYTES, Version, read_step_into};
 
+/// How many bytes may stand before a last word: the most that a line of version 2 has, without those of
+/// the longest store.
+const FRONT_BYTES: usize = LINE_BYTES - 128;
+
 /// A last word that version 2 can spell in place of each that is read here.
 const LAST: &[u8] = b"10";
 
@@ -66,16 +70,10 @@ fn read_told_last(
     ensures fits { IfSome (then_some result step.new) (FitsStepOf version) }
 {
     let (front, last) = line.split_at(at);
-    if !may_be_front(front) {
-        return false;
-    }
     let Some((word, rest)) = split_word(last) else {
         return false;
     };
-    if !rest.is_empty() {
-        return false;
-    }
-    if let Err(_full) = put_front(room, front) {
+    if !may_be_front(front) || !rest.is_empty() || put_front(room, front).is_err() {
         return false;
     }
     read_step_into(version, room.as_slice(), step) && put_last(step, word)
@@ -100,11 +98,8 @@ fn may_be_front(front: &[u8]) -> bool
     ensures space { IsTrue result → (words : List ℕ) × (front.now ≡ words ++ 32 ∷ []) }
     ensures short { IsTrue result → length front.now ≤ 384 }
 {
-    if front.len() > LINE_BYTES - 128 {
-        return false;
-    }
     match before_space(front) {
-        Some([.., byte]) => byte.is_ascii_digit() || *byte == b'r',
+        Some([.., byte]) if front.len() <= FRONT_BYTES => byte.is_ascii_digit() || *byte == b'r',
         _ => false,
     }
 }
@@ -133,8 +128,7 @@ fn with_last(step: &Step, word: &[u8]) -> Option<Step>
 {
     match step {
         Step::Call(pid, Call::Store(address, _)) => {
-            let bytes = string_bytes(word)?;
-            Some(Step::Call(*pid, Call::Store(*address, bytes)))
+            Some(Step::Call(*pid, Call::Store(*address, bytes_of(word)?)))
         }
         Step::Call(pid, Call::Kill(target, _)) => {
             let signo = named(word)?;
@@ -146,15 +140,14 @@ fn with_last(step: &Step, word: &[u8]) -> Option<Step>
 }
 
 /// The bytes that a string means, by its whole word.
-fn string_bytes(word: &[u8]) -> Option<ArrayVec<u8, 64>>
+fn bytes_of(word: &[u8]) -> Option<ArrayVec<u8, 64>>
     ensures plain { IfSome result (λ bytes. plain_bytes word.now ≡ encode_lower bytes.items) }
     ensures fits { IfSome result (λ bytes. FitsArgument (Bytes bytes.items)) }
 {
-    let Some((b'"', string)) = word.split_first() else {
-        return None;
-    };
-    let bytes = meant(string)?;
-    Some(bytes)
+    match word {
+        [b'"', string @ ..] => meant(string),
+        _ => None,
+    }
 }
 
 /// The same where only other blanks part the words.

@@ -21,10 +21,7 @@ pub fn put(room: &mut Room, bytes: &[u8]) -> Result<(), Full>
     if let [byte] = bytes {
         return put_byte(room, *byte); // many words are one digit
     }
-    match room.try_extend_from_slice(bytes) {
-        Ok(()) => Ok(()),
-        Err(_over) => Err(Full),
-    }
+    room.try_extend_from_slice(bytes).map_err(|_over| Full)
 }
 
 /// Appends a byte. `Full` where it has no room.
@@ -32,10 +29,7 @@ pub fn put_byte(room: &mut Room, byte: u8) -> Result<(), Full>
     ensures put { OnOk result (room.new.items ≡ room.old.items ++ byte ∷ []) }
     ensures full { OnErr result (IsOver (room.old.items ++ byte ∷ [])) }
 {
-    match room.try_push(byte) {
-        Ok(()) => Ok(()),
-        Err(_byte) => Err(Full),
-    }
+    room.try_push(byte).map_err(|_byte| Full)
 }
 
 /// Appends a number in decimal digits. `Full` where they have no room: none is appended then.

@@ -40,10 +40,7 @@ fn set_with(set: SigSet, part: &[u8]) -> Option<SigSet>
         ≡ set_with (Some (bits_of set)) (signal_of part.now) }
 {
     let signo = signal(part)?;
-    if has(set, signo) {
-        return None;
-    }
-    Some(with(set, signo))
+    (!has(set, signo)).then(|| with(set, signo))
 }
 
 /// Appends the known signals of a set, by rising number.

@@ -32,7 +32,7 @@ fn numbered(word: &[u8]) -> Option<Signo>
     ensures small { IfSome result (λ r. r.0 < 64) }
 {
     let signo = Signo(read_byte(word)?);
-    if is_known(signo) { Some(signo) } else { None }
+    is_known(signo).then_some(signo)
 }
 
 /// A word without `SIG` before it, where it begins so.
@@ -51,38 +51,18 @@ fn number_of_name(name: &[u8]) -> Option<u8>
     ensures number { result ≡ number_of_name name.now }
     ensures small { IfSome result (λ r. r < 64) }
 {
-    if is(name, b"HUP") {
-        return Some(1);
+    match name {
+        b"HUP" => Some(1),
+        b"INT" => Some(2),
+        b"QUIT" => Some(3),
+        b"ABRT" => Some(6),
+        b"KILL" => Some(9),
+        b"USR1" => Some(10),
+        b"USR2" => Some(12),
+        b"PIPE" => Some(13),
+        b"ALRM" => Some(14),
+        b"TERM" => Some(15),
+        b"CHLD" => Some(17),
+        _ => None,
     }
-    if is(name, b"INT") {
-        return Some(2);
-    }
-    if is(name, b"QUIT") {
-        return Some(3);
-    }
-    if is(name, b"ABRT") {
-        return Some(6);
-    }
-    if is(name, b"KILL") {
-        return Some(9);
-    }
-    if is(name, b"USR1") {
-        return Some(10);
-    }
-    if is(name, b"USR2") {
-        return Some(12);
-    }
-    if is(name, b"PIPE") {
-        return Some(13);
-    }
-    if is(name, b"ALRM") {
-        return Some(14);
-    }
-    if is(name, b"TERM") {
-        return Some(15);
-    }
-    if is(name, b"CHLD") {
-        return Some(17);
-    }
-    None
 }

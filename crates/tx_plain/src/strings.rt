@@ -16,11 +16,7 @@ pub fn meant(string: &[u8]) -> Option<ArrayVec<u8, 64>>
     let mut left = string;
     while let Some((first, others)) = left.split_first() {
         if *first == b'"' {
-            return if others.is_empty() && !bytes.is_empty() {
-                Some(bytes)
-            } else {
-                None
-            };
+            return (others.is_empty() && !bytes.is_empty()).then_some(bytes);
         }
         let (byte, rest) = split_byte(left)?;
         if bytes.is_full() {

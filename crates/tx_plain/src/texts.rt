@@ -24,16 +24,11 @@ pub fn read_text(alloc: Global, text: &[u8]) -> Result<Option<Text>, NoMemory>
     ensures { IfOk result (λ found. IfSome found (MeansText text.now)) }
 {
     let Some((schedule, left)) = begun_schedule(alloc, text)? else {
-        return match program_in(alloc, text)? {
-            Some(program) => Ok(Some(Text::Program(program))),
-            None => Ok(None),
-        };
+        return Ok(program_in(alloc, text)?.map(Text::Program));
     };
     if left.split().is_none() {
         return Ok(Some(Text::Schedule(schedule)));
     }
-    match commands_after(alloc, schedule.header.version, left)? {
-        Some(commands) => Ok(Some(Text::Walk(Walk { schedule, commands }))),
-        None => Ok(None),
-    }
+    let commands = commands_after(alloc, schedule.header.version, left)?;
+    Ok(commands.map(|commands| Text::Walk(Walk { schedule, commands })))
 }

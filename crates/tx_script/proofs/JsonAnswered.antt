@@ -7,7 +7,7 @@ use Rattle.tx_check.specs.declared.kinds.Kind.TheVariants as kinds
 use Rattle.tx_lines.specs.Schedule.{FaultsBy, IsFaultOf}
 use Rattle.tx_lines.specs.Walks.{IsWalkFault}
 use Rattle.tx_lines.specs.declared.faults.Fault.{Fault}
-use Rattle.tx_lines.specs.declared.faults.Fault.TheVariants.{NoMemory}
+use Rattle.tx_lines.specs.declared.faults.Fault.TheVariants.{NotALine, NoLabel, TooLong, Reader, Writer, NoMemory}
 use Rattle.tx_plain.specs.Meant.{meant_of, IsOwnFault}
 use Rattle.tx_script.specs.JsonTexts.{texts, IsFaultAs, Spelled}
 use Rattle.tx_script.specs.Grammars.{AnswersText}
@@ -34,3 +34,13 @@ as_kind kinds.Program text other fault found = found
 
 pub as_schedule : (text : List ℕ) → kind_of text ≢ kinds.Walk → (fault : Fault) → IsFaultOf text fault → IsFaultAs (kind_of text) text fault
 as_schedule text = as_kind (kind_of text) text
+
+-- a fault of the text is one of another kind, where each of the text that is meant is
+pub own_as : (IsOne IsOther : List ℕ → Fault → Type 0) (text : List ℕ) (fault : Fault) → ((meant : Fault) → IsOne (meant_of text) meant → IsOther (meant_of text) meant)
+    → FaultsBy (IsOwnFault IsOne text) fault → FaultsBy (IsOwnFault IsOther text) fault
+own_as IsOne IsOther text (NotALine line) every is = record { meant = is.meant; is_fault = every is.meant is.is_fault; own = is.own }
+own_as IsOne IsOther text (NoLabel line) every is = record { meant = is.meant; is_fault = every is.meant is.is_fault; own = is.own }
+own_as IsOne IsOther text (TooLong line) every is = record { meant = is.meant; is_fault = every is.meant is.is_fault; own = is.own }
+own_as IsOne IsOther text Reader every is = is
+own_as IsOne IsOther text Writer every is = is
+own_as IsOne IsOther text NoMemory every is = is

@@ -1,8 +1,7 @@
 use Rattle.std.proofs.Common.{None}
 use Rattle.tx_lines.specs.Schedule.{IsFaultOf}
 use Rattle.tx_plain.specs.Meant.{meant_of}
-use Rattle.tx_plain.specs.MeantFacts.{own_as}
-use Rattle.tx_script.proofs.JsonAnswered.{answers_text, as_schedule, faulted}
+use Rattle.tx_script.proofs.JsonAnswered.{answers_text, as_schedule, faulted, own_as}
 use Rattle.tx_script.specs.JsonTexts.{texts}
 use Rattle.tx_script.proofs.as_json.texts.schedule_text.Goals as goal
 
