@@ -9,8 +9,7 @@ use Rattle.tx_check.proofs.SteppedTexts.{schedule_faulty, schedule_grammar, Begi
 use Rattle.tx_check.proofs.WalkedTexts.{before_lines, walk_faulty, walk_grammar, BeginsCommands}
 use Rattle.tx_check.proofs.ReadTexts.{same_fault, FaultsBehind, IsFault}
 use Rattle.tx_check.specs.Kinds.{head_of}
-use Rattle.tx_check.specs.Laws.{NoneHasTwo, NoneIsBoth}
-use Rattle.tx_check.specs.Reads.{IsRead}
+use Rattle.tx_check.specs.Reads.{IsAtFault, IsRead}
 use Rattle.tx_check.specs.declared.kinds.Kind.{Kind}
 use Rattle.tx_check.specs.declared.kinds.Kind.TheVariants as kinds
 use Rattle.tx_lines.specs.Lines.{step_text}
@@ -102,8 +101,8 @@ two kind text a b (inr first) (inr second) =
     one_later kind first.0.version first.1 a b first.3
     (subst (λ (r : List ℕ). FaultsBehind kind first.0.version r b) same.1 (subst (λ (v : Version). FaultsBehind kind v second.1 b) same.0 second.3))
 
-pub none_is_both : NoneIsBoth
+pub none_is_both : (kind : Kind) (text : List ℕ) (fault : Fault) → IsRead kind text → IsAtFault kind text fault → ⊥
 none_is_both kind text fault read is = never kind text fault (whole kind text read) (same_fault kind text fault is)
 
-pub none_has_two : NoneHasTwo
+pub none_has_two : (kind : Kind) (text : List ℕ) (one other : Fault) → IsAtFault kind text one → IsAtFault kind text other → one ≡ other
 none_has_two kind text one other first second = two kind text one other (same_fault kind text one first) (same_fault kind text other second)

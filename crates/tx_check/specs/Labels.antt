@@ -1,9 +1,11 @@
 -- Which lines of a text are labels.
-use Rattle.std.specs.Prelude.{◌≡◌, ℕ, zero, suc, ◌+◌, ◌<◌, ◌^◌, List, [], ◌∷◌, ◌++◌, length, map, if◌then◌else◌}
-use Rattle.tx_check.specs.Numbered.{after_lines, behind}
+use Rattle.std.specs.Prelude.{◌≡◌, ◌≢◌, ℕ, zero, suc, ◌+◌, ◌<◌, ◌≤◌, ◌^◌, List, [], ◌∷◌, ◌++◌, length, map, if◌then◌else◌}
+use Rattle.tx_check.specs.Numbered.{after_lines, behind, line_at}
 use Rattle.tx_check.specs.Stands.{begins_label}
 use Rattle.tx_check.specs.declared.labels.LabelLine.{LabelLine}
+use Rattle.tx_check.specs.declared.labels.LabelPlace.{LabelPlace}
 use Rattle.tx_check.specs.declared.labels.Labels.{Labels}
+use Rattle.tx_lines.specs.Programs.{label_front}
 use Rattle.tx_lines.specs.Schedule.{first_line}
 use Rattle.tx_plain.specs.MeantLines.{left_of, line_of}
 
@@ -26,3 +28,9 @@ pub record AreKnown (labels : Labels) : Type 0 where
   pub known : map label_at labels.known.items ≡ labels_in labels.passed 1 (left_of labels.text)
   pub behind : left_of labels.behind ≡ after_lines labels.passed (left_of labels.text)
   pub room : labels.passed + length labels.behind.left.now < 2 ^ 64
+
+-- the line at that place is the first label of that name
+pub record IsFirstLabel (text name : List ℕ) (place : LabelPlace) : Type 0 where
+  pub some : 1 ≤ place.number
+  pub found : line_at place.number text ≡ label_front ++ name
+  pub first : (earlier : ℕ) → 1 ≤ earlier → earlier < place.number → line_at earlier text ≢ label_front ++ name

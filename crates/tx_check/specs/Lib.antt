@@ -2,7 +2,6 @@ pub mod Behind
 pub mod Command
 pub mod Kinds
 pub mod Labels
-pub mod Laws
 pub mod Near
 pub mod Numbered
 pub mod OwnLines

@@ -72,18 +72,9 @@ pub record FindsLabel (word text : List ℕ) (name : Option (List ℕ)) : Type 0
   pub all : after_lines count text ≡ []
   pub found : FindsName word (label_names count text) 5 name
 
--- the names of the calls of a schedule, of the commands of a text and of a session, and of the pieces of a state
+-- the names of the calls of a schedule
 abbrev pub call_names : List (List ℕ)
 call_names = map (λ form. form.0.now) CALLS
-
-abbrev pub command_names : List (List ℕ)
-command_names = map (λ form. form.0.now) COMMANDS
-
-abbrev pub session_names : List (List ℕ)
-session_names = map (λ form. form.0.now) SESSION
-
-abbrev pub piece_names : List (List ℕ)
-piece_names = map (λ form. form.0.now) PIECES
 
 -- the name that was found
 abbrev pub name_of : NearName → List ℕ
@@ -111,7 +102,7 @@ IsKnown (Some (nears.Label line)) = ⊥
 abbrev pub IsFoundIn : Names → List ℕ → Option NearName → Type 0
 IsFoundIn names.Calls word found = IsKnown found ⊎ FindsName word call_names 5 (option_map name_of found)
 IsFoundIn names.Instructions word found = IsKnown found ⊎ FindsName word (take (length call_names - 1) call_names) 5 (option_map name_of found)
-IsFoundIn names.Commands word found = IsKnown found ⊎ FindsName word command_names 5 (option_map name_of found)
-IsFoundIn names.Session word found = IsKnown found ⊎ FindsName word (session_names ++ call_names) 5 (option_map name_of found)
-IsFoundIn names.Pieces word found = FindsName word piece_names 5 (option_map name_of found)
+IsFoundIn names.Commands word found = IsKnown found ⊎ FindsName word (map (λ form. form.0.now) COMMANDS) 5 (option_map name_of found)
+IsFoundIn names.Session word found = IsKnown found ⊎ FindsName word (map (λ form. form.0.now) SESSION ++ call_names) 5 (option_map name_of found)
+IsFoundIn names.Pieces word found = FindsName word (map (λ form. form.0.now) PIECES) 5 (option_map name_of found)
 IsFoundIn (names.Labels text) word found = FindsLabel (bare_name word) (left_of text) (option_map name_of found)

@@ -13,19 +13,15 @@ use Rattle.tx_lines.specs.declared.faults.Fault.{Fault}
 use Rattle.tx_lines.specs.declared.faults.Fault.TheVariants.{TooLong}
 use Rattle.tx_plain.specs.Meant.{meant_of, IsOwnFault}
 
--- the kind that JSON is made of, by the kind that a text is meant to be: a program is none
-abbrev pub json_kind : Kind → Kind
-json_kind Walk = Walk
-json_kind _ = Schedule
-
--- the kind of text that a command reads
+-- the kind of text that a command reads, by the kind that a text is meant to be: JSON is made of no program
 abbrev pub kind_for : Reader → Kind → Kind
 kind_for Any kind = kind
 kind_for Replay kind = Schedule
 kind_for Debug kind = Walk
 kind_for Run kind = Program
 kind_for Picture kind = Schedule
-kind_for Json kind = json_kind kind
+kind_for Json Walk = Walk
+kind_for Json kind = Schedule
 
 -- as a text is meant to be
 abbrev pub kind_read : Reader → List ℕ → Kind

@@ -1,13 +1,14 @@
 -- What is told of a text: a line for each line at fault.
-use Rattle.std.specs.Prelude.{◌≡◌, ◌≢◌, ◌↔◌, ℕ, ◌<◌, ◌≤◌, Bool, true, not, List, [], ◌∷◌, ◌++◌, length, nat_eq, codes, All, ◌+◌, ◌⊎◌}
+use Rattle.std.specs.Prelude.{◌≡◌, ◌≢◌, ◌↔◌, ℕ, ◌<◌, ◌≤◌, Bool, true, not, List, [], ◌∷◌, ◌++◌, length, nat_eq, codes, All, ◌+◌, ◌⊎◌, IfSome}
 use Rattle.std.specs.Fmt.{decimal}
 use Rattle.std.specs.List.{list_all}
 use Rattle.tx_check.specs.Kinds.{kind_of}
 use Rattle.tx_check.specs.Numbered.{line_at}
 use Rattle.tx_check.specs.Reads.{line_of, IsAtFault, IsRead}
-use Rattle.tx_check.specs.Speaking.{line_sentence, FaultKind, IsOfKind, OfGrammar, OfLabel, OfLength, SpeaksAt}
+use Rattle.tx_check.specs.Speaking.{line_sentence, word_of, FaultKind, IsOfKind, IsPlacedInLine, IsWordAt, OfGrammar, OfLabel, OfLength, SpeaksAt}
 use Rattle.tx_check.specs.Wrong.{IsWrongLine, IsWrongToo}
 use Rattle.tx_check.specs.declared.trouble.LineTrouble.TheVariants.{TooLong}
+use Rattle.tx_check.specs.declared.trouble.Trouble.{Trouble}
 use Rattle.tx_lines.specs.Schedule.{lines_of}
 use Rattle.tx_lines.specs.declared.faults.Fault.{Fault}
 use Rattle.tx_lines.specs.declared.faults.Fault.TheVariants as faults
@@ -35,6 +36,12 @@ IsInLine bytes = list_all is_no_end bytes ≡ true
 -- columns count from 1, and the column after the last byte stands for the line's end
 abbrev pub IsColumn : List ℕ → ℕ → Type 0
 IsColumn line column = (1 ≤ column) × (column ≤ length line + 1)
+
+-- what was found of a line is so at its column, and the word of which it speaks is there
+pub record IsPlaced (line : List ℕ) (trouble : Trouble) : Type 0 where
+  pub column : IsColumn line trouble.column
+  pub in_line : IsPlacedInLine line trouble.column trouble.what
+  pub word : IfSome (word_of trouble.what) (λ word. IsWordAt line trouble.column word)
 
 -- what is told of a line of these bytes stands in one line, and names a column of that one: that of the word of which it speaks; a line that is too long,
 -- whether or not a byte 13 at its end is one of it, is told as that

@@ -99,25 +99,19 @@ pub fn tell_from(
     let (line, behind) = lines.cut();
     let mut room = Room::new();
     let number = line_of(fault);
-    let at_fault = TextLine {
+    let faulty = TextLine {
         number,
         bytes: line.meaning(&mut room),
         is_ended: line.is_ended,
     };
     let own = TextFrom::first(text).moved_to(line.number);
     let own_line = own.line();
-    let trouble = trouble_at_fault(meant.text, meant, &place, at_fault);
+    let trouble = trouble_at_fault(meant.text, meant, &place, faulty);
     let mut told = String::new(alloc);
     let is_third = meant.text.are_third();
-    let trouble = own_trouble(
-        is_third,
-        place.part,
-        at_fault.bytes,
-        own_line.bytes,
-        trouble,
-    );
+    let trouble = own_trouble(is_third, place.part, faulty.bytes, own_line.bytes, trouble);
     tell(alloc, &mut told, own_line, trouble)?;
-    let place = place.after(at_fault.bytes);
+    let place = place.after(faulty.bytes);
     tell_behind(alloc, meant, place, number, behind, own, &mut told)?;
     Ok(told)
 }
@@ -146,9 +140,7 @@ pub fn line_of(fault: Fault) -> u64
     ensures { result ≡ spec.line_of fault }
 {
     match fault {
-        Fault::NotALine { line } => line,
-        Fault::NoLabel { line } => line,
-        Fault::TooLong { line } => line,
+        Fault::NotALine { line } | Fault::NoLabel { line } | Fault::TooLong { line } => line,
         _ => 0,
     }
 }

@@ -66,7 +66,7 @@ fn told_for(alloc: Global, reader: Reader, text: &[u8]) -> Result<String, NoMemo
     ensures { IfOk result (λ told. IsToldFor reader text.now (string_bytes told)) }
 {
     if let Some(kind) = right_kind(alloc, text)
-        && reader.kind(kind).is(kind)
+        && reader.kind(kind) == kind
     {
         return told_of_kind(alloc, reader, text);
     }
@@ -79,21 +79,10 @@ fn tell_for(alloc: Global, reader: Reader, text: &[u8]) -> Result<String, NoMemo
 {
     let meant = kind_of(MeantLines::of(text));
     let told = told_as(alloc, reader.kind(meant), meant, text)?;
-    if is_nothing(told.as_str()) {
+    if told.is_empty() {
         return told_of_kind(alloc, reader, text);
     }
     Ok(told)
-}
-
-/// Whether nothing is told.
-fn is_nothing(told: &str) -> bool
-    ensures nothing { IsTrue result → told.now ≡ [] }
-    ensures something { IsFalse result → told.now ≢ [] }
-{
-    match told.as_bytes() {
-        [] => true,
-        [_first, ..] => false,
-    }
 }
 
 /// What is told of a text for that command, which reads texts of the kind that the text is of.
@@ -112,7 +101,7 @@ fn told_as(alloc: Global, kind: Kind, meant: Kind, text: &[u8]) -> Result<String
     requires { meant ≡ kinds_spec.kind_of (meant_of text.now) }
     ensures { IfOk result (λ told. IsToldAs kind text.now (string_bytes told)) }
 {
-    if kind.is(meant) {
+    if kind == meant {
         tell_text(alloc, text)
     } else {
         told_as_other(alloc, kind, text)
@@ -165,10 +154,7 @@ fn same_line(found: Option<Fault>, other: Fault) -> Option<Fault>
         reads.line_of fault ≢ reads.line_of other) }
 {
     let fault = found?;
-    if line_of(fault) == line_of(other) {
-        return Some(fault);
-    }
-    None
+    (line_of(fault) == line_of(other)).then_some(fault)
 }
 
 /// Whether a text that is of the kind which the command reads has more lines than it takes.
@@ -177,10 +163,7 @@ fn is_long_for(reader: Reader, text: &[u8]) -> bool
         → IsLongFor reader (meant_of text.now) (faults.TooLong 202) }
     ensures short { IsFalse result → IsShortFor reader (meant_of text.now) }
 {
-    match reader {
-        Reader::Picture => !is_none_behind(MeantLines::of(text), PICTURE_LINES),
-        _ => false,
-    }
+    matches!(reader, Reader::Picture) && !is_none_behind(MeantLines::of(text), PICTURE_LINES)
 }
 
 /// What is told of a text with more lines than the command takes.
@@ -217,10 +200,7 @@ fn tell_alone(
     ensures { IfOk result (λ told. TellsFrom (λ line. ⊥) text.now number (string_bytes told)) }
 {
     let line = TextFrom::first(text).moved_to(number).line();
-    let column = match own_word(line.bytes, place) {
-        Some(word) => word.column,
-        None => 1,
-    };
+    let column = own_word(line.bytes, place).map_or(1, |word| word.column);
     let mut told = String::new(alloc);
     tell(alloc, &mut told, line, Trouble::of_line(column, trouble))?;
     Ok(told)

@@ -100,10 +100,7 @@ fn trouble_in<'a>(place: &Place, line: &'a [u8], is_ended: bool) -> Trouble<'a>
     {
         return trouble;
     }
-    match no_end(line, is_ended) {
-        Some(trouble) => trouble,
-        None => unknown(),
-    }
+    no_end(line, is_ended).unwrap_or(unknown())
 }
 
 /// What is told of a line without an end.
@@ -112,10 +109,7 @@ fn no_end(line: &[u8], is_ended: bool) -> Option<Trouble<'static>>
     ensures unended { IfSome result (λ trouble. is_ended ≡ false) }
     ensures kind { IfSome result (λ trouble. kind_of_what trouble.what ≡ OfGrammar) }
 {
-    if is_ended {
-        return None;
-    }
-    Some(Trouble::of_line(line.len() + 1, LineTrouble::NoEnd))
+    (!is_ended).then_some(Trouble::of_line(line.len() + 1, LineTrouble::NoEnd))
 }
 
 /// What is told of a line at fault where nothing else is found that is wrong with it.
@@ -164,13 +158,10 @@ fn trouble_in_words<'a>(place: &Place, line: &'a [u8]) -> Option<Trouble<'a>> {
     {
         return Some(Trouble::of_line(1, LineTrouble::NoHeader));
     }
-    if let Some(trouble) = shape_trouble(line) {
-        return Some(trouble);
-    }
-    match place.part {
+    shape_trouble(line).or_else(|| match place.part {
         Part::Header(kind) => header_trouble(kind, line),
         Part::Step => step_trouble(place.version, line),
         Part::Command => command_trouble(place.version, line),
         Part::ProgramLine | Part::Link => program_line_trouble(place.version, line),
-    }
+    })
 }

@@ -111,10 +111,7 @@ fn is_second_label(text: &Labels<'_>, place: &Place, line: TextLine<'_>) -> bool
     ensures { IsTrue result ↔ ((place.now.part ≡ parts.ProgramLine)
         × IsTwice (left_of text.now.text) line.entry.number line.entry.bytes.now) }
 {
-    match place.part {
-        Part::ProgramLine => second_label(text, line.number, line.bytes).is_some(),
-        _ => false,
-    }
+    matches!(place.part, Part::ProgramLine) && second_label(text, line.number, line.bytes).is_some()
 }
 
 /// The fault of the first line of a program that names a label which is nowhere.

@@ -8,7 +8,12 @@ ghost use Rattle.std.specs.Prelude.{◌≡◌, ◌<◌};
 pub struct Form {
     pub name: &'static str,
     pub words: &'static str,
+    /// What is wanted in these words. Nothing where there are none.
+    pub meaning: &'static str,
 }
+
+/// The name, the words and the meaning of a form.
+pub type FormRow = (&'static str, &'static str, &'static str);
 
 /// What a word of a form stands for.
 #[derive(Clone, Copy)]
@@ -33,96 +38,132 @@ pub enum Field {
     Choice(&'static [u8]),
 }
 
-/// The calls of a schedule, and last `deliver`: the name and the words of each form.
-pub static CALLS: [(&'static str, &'static str); 34] = [
-    ("map", "A"),
-    ("unmap", "A"),
-    ("protect", "A r|rw"),
-    ("store", "A HEX"),
-    ("load", "A"),
-    ("fork", "C"),
-    ("exit", "V"),
-    ("waitpid", "T wait|nohang"),
-    ("getpid", ""),
-    ("getppid", ""),
-    ("setuid", "V"),
-    ("seteuid", "V"),
-    ("setgid", "V"),
-    ("setegid", "V"),
-    ("pipe", "Q R W"),
-    ("dup", "F"),
-    ("dup2", "F G"),
-    ("close", "F"),
-    ("set_nonblock", "F on|off"),
-    ("read", "F A V"),
-    ("write", "F A V"),
-    ("kill", "T V"),
-    ("sigqueue", "T V V"),
-    ("sigaction", "V default|ignore|catch POINT SET"),
-    ("sigprocmask", "block|unblock|set SET"),
-    ("sigpending", ""),
-    ("sigreturn", ""),
-    ("console_write", "A V"),
-    ("jump", "POINT always|if V"),
-    ("keep", "V"),
-    ("sys_xbegin", "[defer]"),
-    ("sys_xend", ""),
-    ("sys_xabort", ""),
-    ("deliver", "S"),
+/// The calls of a schedule, and last `deliver`.
+pub static CALLS: [FormRow; 34] = [
+    ("map", "A", "a page's number"),
+    ("unmap", "A", "a page's number"),
+    ("protect", "A r|rw", "a page's number, and r or rw"),
+    (
+        "store",
+        "A HEX",
+        "an address, and bytes in hex or as \"text\" in version 3",
+    ),
+    ("load", "A", "an address"),
+    ("fork", "C", "the child's number"),
+    ("exit", "V", "a status"),
+    (
+        "waitpid",
+        "T wait|nohang",
+        "a child's number, and whether to wait",
+    ),
+    ("getpid", "", ""),
+    ("getppid", "", ""),
+    ("setuid", "V", "an id"),
+    ("seteuid", "V", "an id"),
+    ("setgid", "V", "an id"),
+    ("setegid", "V", "an id"),
+    (
+        "pipe",
+        "Q R W",
+        "a pipe's number, and those of its two descriptions",
+    ),
+    ("dup", "F", "a descriptor"),
+    ("dup2", "F G", "a descriptor, and its new number"),
+    ("close", "F", "a descriptor"),
+    ("set_nonblock", "F on|off", "a descriptor, and on or off"),
+    (
+        "read",
+        "F A V",
+        "a descriptor, an address, and how many bytes",
+    ),
+    (
+        "write",
+        "F A V",
+        "a descriptor, an address, and how many bytes",
+    ),
+    ("kill", "T V", "a process, and a signal"),
+    ("sigqueue", "T V V", "a process, a signal, and a value"),
+    (
+        "sigaction",
+        "V default|ignore|catch POINT SET",
+        "a signal, and what it does; to catch it, also where to go on, and what is blocked, or -",
+    ),
+    (
+        "sigprocmask",
+        "block|unblock|set SET",
+        "what to do, and signals joined by commas, or - for none",
+    ),
+    ("sigpending", "", ""),
+    ("sigreturn", "", ""),
+    ("console_write", "A V", "an address, and how many bytes"),
+    (
+        "jump",
+        "POINT always|if V",
+        "where to go on, and whether always or if the last answer is V",
+    ),
+    ("keep", "V", "a slot, 0 to 7"),
+    ("sys_xbegin", "[defer]", "defer, or nothing"),
+    ("sys_xend", "", ""),
+    ("sys_xabort", "", ""),
+    ("deliver", "S", "a signal"),
 ];
 
-/// The commands of a debugger, likewise.
-pub static COMMANDS: [(&'static str, &'static str); 5] = [
-    ("back", ""),
-    ("forward", ""),
-    ("goto", "K"),
-    ("state", ""),
-    ("moved", "K"),
+/// The commands of a debugger.
+pub static COMMANDS: [FormRow; 5] = [
+    ("back", "", ""),
+    ("forward", "", ""),
+    ("goto", "K", "a position, 0 is before all steps"),
+    ("state", "", ""),
+    ("moved", "K", "the step that committed"),
 ];
 
-/// The commands of a session, likewise.
-pub static SESSION: [(&'static str, &'static str); 18] = [
-    ("back", ""),
-    ("forward", ""),
-    ("goto", "K|end"),
-    ("state", ""),
-    ("moved", "K"),
-    ("steps", "[K] [L]"),
-    ("text", ""),
-    ("try", "STEP"),
-    ("without", "S"),
-    ("when", "PIECE"),
-    ("why", "[STEP]"),
-    ("owns", "[S]"),
-    ("next", "PIECE"),
-    ("cut", ""),
-    ("help", "[WORD]"),
-    ("quit", ""),
-    ("exit", ""),
-    ("?", ""),
+/// What a piece of a state is.
+const PIECES_MEANT: &str =
+    "proc P, page P N, fd P F, ids P, pending P, queue P, desc D, pipe Q, txn S";
+
+/// The commands of a session.
+pub static SESSION: [FormRow; 18] = [
+    ("back", "", ""),
+    ("forward", "", ""),
+    ("goto", "K|end", "a position, 0 is before all steps"),
+    ("state", "", ""),
+    ("moved", "K", "the step that committed"),
+    ("steps", "[K] [L]", "the first step, and the last"),
+    ("text", "", ""),
+    ("try", "STEP", "a step, as 2 getpid"),
+    ("without", "S", "the process that began the transaction"),
+    ("when", "PIECE", PIECES_MEANT),
+    ("why", "[STEP]", "a step, as 2 getpid"),
+    ("owns", "[S]", "the process that began the transaction"),
+    ("next", "PIECE", PIECES_MEANT),
+    ("cut", "", ""),
+    ("help", "[WORD]", "a word to be explained"),
+    ("quit", "", ""),
+    ("exit", "", ""),
+    ("?", "", ""),
 ];
 
-/// The pieces of a state, likewise.
-pub static PIECES: [(&'static str, &'static str); 9] = [
-    ("proc", "P"),
-    ("page", "P N"),
-    ("fd", "P F"),
-    ("ids", "P"),
-    ("pending", "P"),
-    ("queue", "P"),
-    ("desc", "D"),
-    ("pipe", "Q"),
-    ("txn", "S"),
+/// The pieces of a state.
+pub static PIECES: [FormRow; 9] = [
+    ("proc", "P", "a process"),
+    ("page", "P N", "a process, and a page's number"),
+    ("fd", "P F", "a process, and a descriptor"),
+    ("ids", "P", "a process"),
+    ("pending", "P", "a process"),
+    ("queue", "P", "a process"),
+    ("desc", "D", "a description"),
+    ("pipe", "Q", "a pipe"),
+    ("txn", "S", "the process that began the transaction"),
 ];
 
 /// The form of that name.
-pub fn form_of(forms: &'static [(&'static str, &'static str)], name: &[u8]) -> Option<Form> {
-    for (known, words) in forms {
-        if known.as_bytes() == name {
-            return Some(Form { name: known, words });
-        }
-    }
-    None
+pub fn form_of(forms: &'static [FormRow], name: &[u8]) -> Option<Form> {
+    let (name, words, meaning) = *forms.iter().find(|form| form.0.as_bytes() == name)?;
+    Some(Form {
+        name,
+        words,
+        meaning,
+    })
 }
 
 /// What a word of a form stands for.
@@ -142,14 +183,7 @@ pub fn field_of(word: &'static [u8]) -> Field {
 
 /// Whether a word is one of some choices, which are parted by `|`.
 pub fn is_among(choices: &[u8], word: &[u8]) -> bool {
-    let mut start = 0;
-    for at in 0..choices.len() {
-        if choices[at] == b'|' {
-            if &choices[start..at] == word {
-                return true;
-            }
-            start = at + 1;
-        }
-    }
-    &choices[start..] == word
+    choices
+        .split(|byte| *byte == b'|')
+        .any(|choice| choice == word)
 }

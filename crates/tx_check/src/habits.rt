@@ -111,51 +111,31 @@ pub fn left_out(names: Names<'_>, word: &[u8]) -> Option<&'static str>
     ensures { IfSome result (λ reason. kind_of_names names.entry ≡ OfGrammar) }
 {
     match names {
-        Names::Calls | Names::Instructions | Names::Session => reason_of(word),
+        Names::Calls | Names::Instructions | Names::Session => beside(LEFT_OUT.as_slice(), word),
         _ => None,
     }
 }
 
-/// The same, where such a name is wanted.
-fn reason_of(word: &[u8]) -> Option<&'static str> {
-    for (words, reason) in &LEFT_OUT {
-        if is_among(words.as_bytes(), word) {
-            return Some(reason);
-        }
-    }
-    None
-}
-
 /// The form of the call that people who come from elsewhere mean by a word.
 pub fn call_meant(word: &[u8]) -> Option<Form> {
-    form_of(CALLS.as_slice(), name_among(MEANT_CALLS.as_slice(), word)?)
+    let name = beside(MEANT_CALLS.as_slice(), word)?;
+    form_of(CALLS.as_slice(), name.as_bytes())
 }
 
 /// The form of the command of a session that they mean.
 pub fn session_meant(word: &[u8]) -> Option<Form> {
-    form_of(
-        SESSION.as_slice(),
-        name_among(MEANT_COMMANDS.as_slice(), word)?,
-    )
+    let name = beside(MEANT_COMMANDS.as_slice(), word)?;
+    form_of(SESSION.as_slice(), name.as_bytes())
 }
 
 /// The form of the command of a text that they mean.
 pub fn command_meant(word: &[u8]) -> Option<Form> {
-    form_of(
-        COMMANDS.as_slice(),
-        name_among(MEANT_COMMANDS.as_slice(), word)?,
-    )
+    let name = beside(MEANT_COMMANDS.as_slice(), word)?;
+    form_of(COMMANDS.as_slice(), name.as_bytes())
 }
 
-/// The name for which a word stands.
-fn name_among(
-    table: &'static [(&'static str, &'static str)],
-    word: &[u8],
-) -> Option<&'static [u8]> {
-    for (words, name) in table {
-        if is_among(words.as_bytes(), word) {
-            return Some(name.as_bytes());
-        }
-    }
-    None
+/// What stands in a table beside some words of which that is one.
+fn beside(table: &'static [(&'static str, &'static str)], word: &[u8]) -> Option<&'static str> {
+    let row = table.iter().find(|row| is_among(row.0.as_bytes(), word))?;
+    Some(row.1)
 }

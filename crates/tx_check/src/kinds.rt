@@ -7,7 +7,7 @@ use tx_lines::split_word;
 use tx_plain::{MeantLines, Room};
 
 /// A kind of text, each with the command that reads it.
-#[derive(Clone, Copy)]
+#[derive(Clone, Copy, PartialEq, Eq)]
 pub enum Kind {
     /// A schedule, for `replay`.
     Schedule,
@@ -15,20 +15,6 @@ pub enum Kind {
     Walk,
     /// A program, for `run`.
     Program,
-}
-
-impl Kind {
-    /// Whether it is that kind.
-    pub(crate) fn is(self, other: Kind) -> bool
-        ensures { IsTrue result → self ≡ other }
-    {
-        match (self, other) {
-            (Kind::Schedule, Kind::Schedule) => true,
-            (Kind::Walk, Kind::Walk) => true,
-            (Kind::Program, Kind::Program) => true,
-            _ => false,
-        }
-    }
 }
 
 /// The kind of what a text means: a program where the first line begins with `txos`, a word and `program`,
@@ -70,10 +56,7 @@ pub fn front_word(line: &[u8]) -> &[u8]
 fn rest_of(line: &[u8]) -> &[u8]
     ensures { result.now ≡ spec.rest_of line.now }
 {
-    match split_word(line) {
-        Some((_word, rest)) => rest,
-        None => b"",
-    }
+    split_word(line).map_or(b"".as_slice(), |parts| parts.1)
 }
 
 /// Whether one of some lines is the one before commands.

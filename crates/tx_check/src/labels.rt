@@ -1,6 +1,6 @@
 //! The labels among the lines that a text means.
 ghost use Rattle.std.specs.Prelude.{◌≡◌, ◌≢◌, ◌+◌, ◌<◌, ◌≤◌, ◌++◌, ◌↔◌, ℕ, IfNone, IfSome, IsFalse, IsTrue, map};
-ghost use Rattle.tx_check.specs.Labels.{label_at, with_label, AreKnown};
+ghost use Rattle.tx_check.specs.Labels.{label_at, with_label, AreKnown, IsFirstLabel};
 ghost use Rattle.tx_check.specs.Numbered.{after_lines, line_at};
 ghost use Rattle.tx_lines.specs.Programs.{label_front};
 ghost use Rattle.tx_lines.specs.Schedule.{first_line};
@@ -69,12 +69,7 @@ impl<'a> Labels<'a> {
     /// Where the first line stands that is the label of that name.
     pub fn place_of(&self, name: &[u8]) -> Option<LabelPlace>
         requires { AreKnown self.now }
-        ensures some { IfSome result (λ place. 1 ≤ place.number) }
-        ensures found { IfSome result (λ place.
-            line_at place.number (left_of self.now.text) ≡ label_front ++ name.now) }
-        ensures first { IfSome result (λ place.
-            (earlier : ℕ) → 1 ≤ earlier → earlier < place.number →
-            line_at earlier (left_of self.now.text) ≢ label_front ++ name.now) }
+        ensures first { IfSome result (IsFirstLabel (left_of self.now.text) name.now) }
         ensures none { IfNone result
             ((number : ℕ) → line_at number (left_of self.now.text) ≢ label_front ++ name.now) }
     {
@@ -87,12 +82,7 @@ impl<'a> Labels<'a> {
     /// Where the first of the known labels stands that has that name.
     fn known_place(&self, name: &[u8]) -> Option<LabelPlace>
         requires { AreKnown self.now }
-        ensures some { IfSome result (λ place. 1 ≤ place.number) }
-        ensures found { IfSome result (λ place.
-            line_at place.number (left_of self.now.text) ≡ label_front ++ name.now) }
-        ensures first { IfSome result (λ place.
-            (earlier : ℕ) → 1 ≤ earlier → earlier < place.number →
-            line_at earlier (left_of self.now.text) ≢ label_front ++ name.now) }
+        ensures first { IfSome result (IsFirstLabel (left_of self.now.text) name.now) }
         ensures none { IfNone result ((count : ℕ) → count < self.now.passed →
             first_line (after_lines count (left_of self.now.text)) ≢ label_front ++ name.now) }
     {
@@ -114,12 +104,7 @@ impl<'a> Labels<'a> {
         requires known { AreKnown self.now }
         requires none { (count : ℕ) → count < self.now.passed →
             first_line (after_lines count (left_of self.now.text)) ≢ label_front ++ name.now }
-        ensures some { IfSome result (λ place. 1 ≤ place.number) }
-        ensures found { IfSome result (λ place.
-            line_at place.number (left_of self.now.text) ≡ label_front ++ name.now) }
-        ensures first { IfSome result (λ place.
-            (earlier : ℕ) → 1 ≤ earlier → earlier < place.number →
-            line_at earlier (left_of self.now.text) ≢ label_front ++ name.now) }
+        ensures first { IfSome result (IsFirstLabel (left_of self.now.text) name.now) }
         ensures none { IfNone result
             ((number : ℕ) → line_at number (left_of self.now.text) ≢ label_front ++ name.now) }
     {
@@ -146,14 +131,7 @@ fn put_label<'a>(known: &mut ArrayVec<LabelLine<'a>, 256>, number: u64, line: Ow
     ensures full { IsFalse result → known.new.items ≡ known.old.items }
 {
     let mut room = Room::new();
-    if line.label(&mut room).is_none() {
-        return true;
-    }
-    if known.is_full() {
-        return false;
-    }
-    known.push(LabelLine { number, line });
-    true
+    line.label(&mut room).is_none() || known.try_push(LabelLine { number, line }).is_ok()
 }
 
 /// Whether a line means the label of that name.
@@ -161,10 +139,8 @@ fn means_label(line: OwnLine<'_>, name: &[u8]) -> bool
     ensures { IsTrue result ↔ (line_of line.entry ≡ label_front ++ name.now) }
 {
     let mut room = Room::new();
-    match line.label(&mut room) {
-        Some(label) => is_label_of(label, name),
-        None => false,
-    }
+    line.label(&mut room)
+        .is_some_and(|label| is_label_of(label, name))
 }
 
 /// Whether a line is the label of that name.

@@ -11,14 +11,14 @@
 //! `words.rt` cuts a line into words with their columns, and `diagnose/` looks at the words and
 //! says what is wrong: a `Trouble`. It asks the readers of tx_lines about each word, so that
 //! nothing passes as right that the grammar refuses. `sentences.rt` has the words in which a
-//! trouble is told. One table has the form of each call's arguments (`forms.rt`), and `near.rt`
-//! finds the name that is nearest to a mistyped one.
+//! trouble is told. One table has the form of each call's arguments, and what they mean (`forms.rt`),
+//! and `near.rt` finds the name that is nearest to a mistyped one.
 //!
 //! A text can be checked for one command, too (`readers.rt`, `checks_for.rt`): where it is of another kind,
 //! the reader of the command's kind says where it is at fault. And a line of a session can be, where it
 //! is neither a step nor asks for anything (`session.rt`). What is told of a line is looked at once more
 //! (`placed.rt`): the word of which a sentence speaks is at the column that is told. Names from elsewhere
-//! lead to those here (`habits.rt`), and `meanings.rt` says what the letters of a form mean.
+//! lead to those here (`habits.rt`).
 //!
 //! A text of version 3 means one of version 2 (tx_plain), and the lines of that one are read. What is
 //! wrong with a line is told of the line that means it (`own.rt`): by its number, at the column of
@@ -35,7 +35,6 @@ mod heads;
 mod kinds;
 mod labels;
 mod laws;
-mod meanings;
 mod near;
 mod own;
 mod placed;

@@ -1,13 +1,13 @@
 //! The name that is nearest to a mistyped one.
 ghost use Rattle.std.specs.Prelude.{◌≡◌, ◌<◌, ◌≤◌, ◌++◌, ◌∷◌, [], ℕ, List, None, Some, map, option_map, IfNone, IfOk, IfSome};
 ghost use Rattle.tx_check.specs.Near as spec;
-ghost use Rattle.tx_check.specs.Near.{call_names, name_of, near, session_names, with_name, FindsLabel, FindsName, FindsNear, IsFoundIn, IsKnown, IsNear};
+ghost use Rattle.tx_check.specs.Near.{call_names, name_of, near, with_name, FindsLabel, FindsName, FindsNear, IsFoundIn, IsKnown, IsNear};
 ghost use Rattle.tx_check.specs.declared.trouble.Names.TheVariants as lists;
 ghost use Rattle.tx_lines.specs.Programs.{BeginsLabel};
 ghost use Rattle.tx_plain.specs.MeantLines.{left_of, line_of};
 ghost use Rattle.tx_plain.specs.declared.meant_lines.MeantLines.{MeantLines};
 
-use crate::forms::{CALLS, COMMANDS, Form, PIECES, SESSION};
+use crate::forms::{CALLS, COMMANDS, Form, FormRow, PIECES, SESSION};
 use crate::habits::{call_meant, command_meant, session_meant};
 use crate::labels::LABEL_FRONT;
 use crate::trouble::Names;
@@ -83,7 +83,7 @@ fn known_elsewhere(names: Names<'_>, word: &[u8]) -> Option<NearName<'static>>
 /// The nearest of some names.
 fn nearest_name(
     alloc: Global,
-    forms: &'static [(&'static str, &'static str)],
+    forms: &'static [FormRow],
     word: &[u8],
 ) -> Result<Option<NearName<'static>>, NoMemory>
     ensures { IfOk result (λ found. FindsName word.now (map (λ form. form.0.now) forms.now) 5
@@ -95,8 +95,8 @@ fn nearest_name(
 
 /// The nearest command of a session, or a call that is nearer.
 fn nearest_in_session(alloc: Global, word: &[u8]) -> Result<Option<NearName<'static>>, NoMemory>
-    ensures { IfOk result (λ found. FindsName word.now (session_names ++ call_names) 5
-        (option_map name_of found)) }
+    ensures { IfOk result (λ found. FindsName word.now
+        (map (λ form. form.0.now) SESSION ++ call_names) 5 (option_map name_of found)) }
 {
     let command = nearest_form(alloc, None, SESSION.as_slice(), false, word)?;
     let nearest = nearest_form(alloc, command, CALLS.as_slice(), true, word)?;
@@ -120,7 +120,7 @@ fn named<'a>(found: Option<(NearName<'a>, usize)>) -> Option<NearName<'a>>
 fn nearest_form(
     alloc: Global,
     nearest: Option<(NearName<'static>, usize)>,
-    forms: &'static [(&'static str, &'static str)],
+    forms: &'static [FormRow],
     is_step: bool,
     word: &[u8],
 ) -> Result<Option<(NearName<'static>, usize)>, NoMemory>
@@ -130,8 +130,15 @@ fn nearest_form(
 {
     let mut found = nearest;
     for at in 0..forms.len() {
-        let (name, words) = forms[at];
-        let one = near_of(Form { name, words }, is_step);
+        let (name, words, meaning) = forms[at];
+        let one = near_of(
+            Form {
+                name,
+                words,
+                meaning,
+            },
+            is_step,
+        );
         found = nearer(alloc, found, one, name.as_bytes(), word)?;
     }
     Ok(found)
@@ -170,10 +177,7 @@ fn nearer<'a>(
 fn bound(nearest: Option<(NearName<'_>, usize)>) -> usize
     ensures { result ≡ spec.bound 5 (option_map near nearest.entry) }
 {
-    match nearest {
-        Some((_name, edits)) => edits,
-        None => EDITS + 1,
-    }
+    nearest.map_or(EDITS + 1, |found| found.1)
 }
 
 /// The nearest of the names of the labels in a text: the first where several are as near.
@@ -208,10 +212,7 @@ fn nearer_label<'a>(
 {
     let mut room = Room::new();
     match label_name(line, &mut room) {
-        Some(name) => {
-            let next = nearer(alloc, nearest, NearName::Label(line), name, word)?;
-            Ok(next)
-        }
+        Some(name) => nearer(alloc, nearest, NearName::Label(line), name, word),
         None => Ok(nearest),
     }
 }
@@ -245,8 +246,5 @@ fn fewer_edits(
         return Ok(None);
     };
     let fewer = osa_distance(alloc, name_text, word_text)?;
-    if fewer >= edits || fewer > EDITS || fewer > name.len() / 3 {
-        return Ok(None);
-    }
-    Ok(Some(fewer))
+    Ok((fewer < edits && fewer <= EDITS && fewer <= name.len() / 3).then_some(fewer))
 }

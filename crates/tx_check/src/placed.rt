@@ -2,7 +2,7 @@
 ghost use Rattle.std.specs.Prelude.{◌≡◌, ◌≢◌, ◌<◌, ◌≤◌, ◌⊎◌, ◌++◌, ◌∷◌, [], ℕ, List, IfSome, IsFalse, IsTrue, MatchOption, None, length, option_map, true};
 ghost use Rattle.tx_check.specs.Speaking.{ends_word, is_odd, kind_of_what, word_of, IsAt, IsBehindWords, IsByteAt, IsCommandAt, IsDigitAt, IsFitting, IsOddSpace, IsPlacedInLine, IsStepAt, IsTrueOf, IsWordAt, OfGrammar, OfLabel, OfLength};
 ghost use Rattle.tx_check.specs.Speaking as spec;
-ghost use Rattle.tx_check.specs.Told.{IsColumn};
+ghost use Rattle.tx_check.specs.Told.{IsColumn, IsPlaced};
 ghost use Rattle.tx_check.specs.declared.trouble.LineTrouble.TheVariants as troubles;
 ghost use Rattle.tx_check.specs.declared.trouble.What.TheVariants as whats;
 ghost use Rattle.tx_plain.specs.OwnLines.{without_return};
@@ -16,9 +16,7 @@ use tx_plain::{MeantLines, split_word};
 /// What is told of a line where that trouble was found: the trouble, where what it says is so in
 /// its column. Of a line that is too long nothing else is told.
 pub fn placed<'a>(line: &'a [u8], trouble: Trouble<'a>) -> Trouble<'a>
-    ensures column { IsColumn line.now result.column }
-    ensures line { IsPlacedInLine line.now result.column result.what }
-    ensures word { IfSome (word_of result.what) (λ word. IsWordAt line.now result.column word) }
+    ensures placed { IsPlaced line.now result }
     ensures long { 512 < length (without_return line.now) →
         result.what ≡ whats.Line troubles.TooLong }
     ensures kind { IsFitting line.now trouble.entry.what →
@@ -63,9 +61,7 @@ fn is_of_length(line: &[u8], what: &What<'_>) -> bool
 /// That there is no such label, told of the first place in a line where the word stands; of the line's
 /// end where it stands nowhere.
 fn no_label<'a>(line: &'a [u8], text: MeantLines<'a>, word: &'a [u8]) -> Trouble<'a>
-    ensures column { IsColumn line.now result.column }
-    ensures line { IsPlacedInLine line.now result.column result.what }
-    ensures word { IfSome (word_of result.what) (λ word. IsWordAt line.now result.column word) }
+    ensures placed { IsPlaced line.now result }
     ensures kind { kind_of_what result.what ≡ OfLabel }
 {
     for at in 0..line.len() {
@@ -88,9 +84,7 @@ fn no_label<'a>(line: &'a [u8], text: MeantLines<'a>, word: &'a [u8]) -> Trouble
 /// no line of the first two versions, or else the first word.
 fn of_bytes(line: &[u8], column: usize) -> Trouble<'_>
     requires { IsColumn line.now column }
-    ensures column { IsColumn line.now result.column }
-    ensures line { IsPlacedInLine line.now result.column result.what }
-    ensures word { IfSome (word_of result.what) (λ word. IsWordAt line.now result.column word) }
+    ensures placed { IsPlaced line.now result }
     ensures kind { kind_of_what result.what ≡ OfGrammar }
 {
     match odd_byte_at(line, column) {
@@ -120,18 +114,13 @@ fn odd_byte(byte: u8) -> Option<u8>
     ensures byte { IfSome result (λ odd. odd ≡ byte) }
     ensures odd { IfSome result (λ odd. is_odd byte ≡ true) }
 {
-    if is_odd(byte) && byte != b'\t' {
-        return Some(byte);
-    }
-    None
+    (is_odd(byte) && byte != b'\t').then_some(byte)
 }
 
 /// What is told of any line: that it may not stand where it does, of its first word; or what stands
 /// there where it has none.
 fn of_first_word(line: &[u8]) -> Trouble<'_>
-    ensures column { IsColumn line.now result.column }
-    ensures line { IsPlacedInLine line.now result.column result.what }
-    ensures word { IfSome (word_of result.what) (λ word. IsWordAt line.now result.column word) }
+    ensures placed { IsPlaced line.now result }
     ensures kind { kind_of_what result.what ≡ OfGrammar }
 {
     if let Some(first) = own_word(line, 0) {
@@ -147,9 +136,7 @@ fn of_first_word(line: &[u8]) -> Trouble<'_>
 /// stand where it does, where that can be a word's.
 fn of_first_byte(line: &[u8], byte: u8) -> Trouble<'_>
     requires { IsByteAt line.now 1 byte }
-    ensures column { IsColumn line.now result.column }
-    ensures line { IsPlacedInLine line.now result.column result.what }
-    ensures word { IfSome (word_of result.what) (λ word. IsWordAt line.now result.column word) }
+    ensures placed { IsPlaced line.now result }
     ensures kind { kind_of_what result.what ≡ OfGrammar }
 {
     match byte {
@@ -166,9 +153,7 @@ fn of_first_byte(line: &[u8], byte: u8) -> Trouble<'_>
 /// That a line may not stand where it does, told of the word in that column.
 fn none_here(line: &[u8], column: usize) -> Trouble<'_>
     requires { IsColumn line.now column }
-    ensures column { result.column ≡ column }
-    ensures line { IsPlacedInLine line.now column result.what }
-    ensures word { IfSome (word_of result.what) (λ word. IsWordAt line.now column word) }
+    ensures placed { IsPlaced line.now result }
     ensures kind { kind_of_what result.what ≡ OfGrammar }
 {
     Trouble {
@@ -233,10 +218,7 @@ fn is_named_at(line: &[u8], column: usize, trouble: LineTrouble) -> bool
     ensures { IsTrue result → IfSome (spec.word_for trouble) (λ word.
         IsWordAt line.now column word) }
 {
-    match word_for(trouble) {
-        Some(word) => is_word_at(line, column, word),
-        None => true,
-    }
+    word_for(trouble).is_none_or(|word| is_word_at(line, column, word))
 }
 
 /// The word in the column of a trouble with a line, where it is always the same.
@@ -364,10 +346,7 @@ fn is_at(line: &[u8], column: usize, bytes: &[u8]) -> bool
     ensures { IsTrue result → IsAt line.now column bytes.now }
 {
     let (_front, left) = line.split_at(column - 1);
-    match behind(bytes, left) {
-        Some(_rest) => true,
-        None => false,
-    }
+    behind(bytes, left).is_some()
 }
 
 /// Whether that byte is in that column of a line.

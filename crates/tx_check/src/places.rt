@@ -247,9 +247,5 @@ pub fn is_label(line: &[u8]) -> bool
 pub fn behind(text: &[u8]) -> &[u8]
     ensures { result.now ≡ spec.behind text.now }
 {
-    let (_line, rest) = take_line(text);
-    match rest {
-        Some(rest) => rest,
-        None => b"",
-    }
+    take_line(text).1.unwrap_or(b"")
 }

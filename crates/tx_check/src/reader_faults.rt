@@ -1,7 +1,6 @@
 //! The faults at which the readers of texts find one.
-ghost use Rattle.std.specs.Prelude.{◌≡◌, ◌≢◌, Some, IfOk, OnOk};
+ghost use Rattle.std.specs.Prelude.{◌≡◌, ◌≢◌, Some, IfOk};
 ghost use Rattle.tx_check.specs.Reads.{Finds};
-ghost use Rattle.tx_check.specs.declared.kinds.Kind.TheVariants as kinds;
 ghost use Rattle.tx_lines.specs.declared.faults.Fault.TheVariants as faults;
 
 use crate::kinds::Kind;
@@ -13,50 +12,19 @@ use tx_lines::{Fault, read_program_text, read_schedule, read_walk};
 pub fn fault_in(alloc: Global, kind: Kind, text: &[u8]) -> Result<Option<Fault>, NoMemory>
     ensures { IfOk result (Finds kind text.now) }
 {
+    match fault_of(alloc, kind, text) {
+        Some(Fault::NoMemory) => Err(NoMemory),
+        fault => Ok(fault),
+    }
+}
+
+/// What that reader answers in place of the text, where it is at fault or memory was refused.
+fn fault_of(alloc: Global, kind: Kind, text: &[u8]) -> Option<Fault>
+    ensures { result ≢ Some faults.NoMemory → Finds kind text.now result }
+{
     match kind {
-        Kind::Schedule => fault_of_schedule(alloc, text),
-        Kind::Walk => fault_of_walk(alloc, text),
-        Kind::Program => fault_of_program(alloc, text),
-    }
-}
-
-/// That of a schedule.
-fn fault_of_schedule(alloc: Global, text: &[u8]) -> Result<Option<Fault>, NoMemory>
-    ensures { IfOk result (Finds kinds.Schedule text.now) }
-{
-    match read_schedule(alloc, text) {
-        Ok(_schedule) => Ok(None),
-        Err(fault) => in_text(fault),
-    }
-}
-
-/// That of a schedule with commands.
-fn fault_of_walk(alloc: Global, text: &[u8]) -> Result<Option<Fault>, NoMemory>
-    ensures { IfOk result (Finds kinds.Walk text.now) }
-{
-    match read_walk(alloc, text) {
-        Ok(_walk) => Ok(None),
-        Err(fault) => in_text(fault),
-    }
-}
-
-/// That of a program.
-fn fault_of_program(alloc: Global, text: &[u8]) -> Result<Option<Fault>, NoMemory>
-    ensures { IfOk result (Finds kinds.Program text.now) }
-{
-    match read_program_text(alloc, text) {
-        Ok(_program) => Ok(None),
-        Err(fault) => in_text(fault),
-    }
-}
-
-/// A fault of a text, where it is no want of memory.
-fn in_text(fault: Fault) -> Result<Option<Fault>, NoMemory>
-    ensures same { IfOk result (λ found. found ≡ Some fault) }
-    ensures text { OnOk result (fault ≢ faults.NoMemory) }
-{
-    match fault {
-        Fault::NoMemory => Err(NoMemory),
-        _ => Ok(Some(fault)),
+        Kind::Schedule => read_schedule(alloc, text).err(),
+        Kind::Walk => read_walk(alloc, text).err(),
+        Kind::Program => read_program_text(alloc, text).err(),
     }
 }

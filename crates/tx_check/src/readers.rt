@@ -27,23 +27,12 @@ impl Reader {
     pub(crate) fn kind(self, meant: Kind) -> Kind
         ensures { result ≡ spec.kind_for self meant }
     {
-        match self {
-            Reader::Any => meant,
-            Reader::Replay | Reader::Picture => Kind::Schedule,
-            Reader::Debug => Kind::Walk,
-            Reader::Run => Kind::Program,
-            Reader::Json => json_kind(meant),
+        match (self, meant) {
+            (Reader::Any, _) => meant,
+            (Reader::Debug, _) | (Reader::Json, Kind::Walk) => Kind::Walk,
+            (Reader::Run, _) => Kind::Program,
+            (Reader::Replay | Reader::Picture | Reader::Json, _) => Kind::Schedule,
         }
-    }
-}
-
-/// The kind that `json` reads: a program is none.
-fn json_kind(meant: Kind) -> Kind
-    ensures { result ≡ spec.json_kind meant }
-{
-    match meant {
-        Kind::Walk => Kind::Walk,
-        Kind::Schedule | Kind::Program => Kind::Schedule,
     }
 }
 

@@ -6,7 +6,6 @@ ghost use Rattle.tx_check.specs.Told.{IsInLine};
 
 use crate::forms::Form;
 use crate::habits::left_out;
-use crate::meanings::meaning_of;
 use crate::near::{NearName, near_name};
 use crate::trouble::{LineTrouble, Names, What, WordTrouble};
 use std::alloc::{AllocError, Global};
@@ -20,6 +19,9 @@ const WORD_BYTES: usize = 48;
 
 /// How many characters are told in hex.
 const HEX_CHARACTERS: usize = 64;
+
+/// What is said of a line that begins with a call, before an example.
+const STEP_BEGINS: &str = ": a step begins with the number of its process, as";
 
 /// Which signals there are.
 const SIGNALS: &str = ", only 1 HUP, 2 INT, 3 QUIT, 6 ABRT, 9 KILL, 10 USR1, 12 USR2, \
@@ -82,16 +84,13 @@ fn word_sentence(alloc: Global, what: &What<'_>) -> Result<String, NoMemory>
     ensures kind { IfOk result (λ sentence. IfSome (word_of what.now) (λ word.
         IsOfKind (kind_of_what what.now) (string_bytes sentence))) }
 {
-    let Some(word) = what.word() else {
-        return Ok(String::new(alloc));
-    };
     let mut tail = String::new(alloc);
-    match what {
-        What::Word(name, WordTrouble::NoSuch(names)) => {
-            say_near_name(alloc, &mut tail, *names, name)?
-        }
-        What::Word(_word, trouble) => say_trouble(&mut tail, word, *trouble)?,
-        What::Line(_) | What::OddByte(_) => {}
+    let What::Word(word, trouble) = what else {
+        return Ok(tail);
+    };
+    match trouble {
+        WordTrouble::NoSuch(names) => say_near_name(alloc, &mut tail, *names, word)?,
+        _ => say_trouble(&mut tail, word, *trouble)?,
     }
     joined(alloc, what.front(), word, tail.as_bytes())
 }
@@ -120,8 +119,7 @@ fn mark_before(tail: &[u8]) -> &'static str
     ensures after { is_after (result.now ++ map shown tail.now) ≡ true }
 {
     match tail {
-        [] => "",
-        [b' ' | b',' | b':' | b';', ..] => "",
+        [] | [b' ' | b',' | b':' | b';', ..] => "",
         _ => ": ",
     }
 }
@@ -131,16 +129,16 @@ fn say_trouble(text: &mut String, word: &[u8], trouble: WordTrouble<'_>) -> Resu
     match trouble {
         WordTrouble::Takes(form, got) => say_takes(text, form, got),
         WordTrouble::LineAlone(line) => {
-            put(
-                text,
-                ": a step begins with the number of its process, as 2 ",
-            )?;
+            write!(text, "{STEP_BEGINS} 2 ")?;
             put_word(text, line)
         }
         WordTrouble::CallAlone(form) => say_call_alone(text, form),
         WordTrouble::OutOfRange(range) => write!(text, ": a number of {range} is wanted"),
         WordTrouble::NoneOf(choices) => {
-            put(text, before_choices(choices))?;
+            put(text, ": ")?;
+            if choices.contains(&b'|') {
+                put(text, "one of ")?;
+            }
             put_word(text, choices)?;
             put(text, " is wanted")
         }
@@ -153,15 +151,6 @@ fn say_trouble(text: &mut String, word: &[u8], trouble: WordTrouble<'_>) -> Resu
         }
         WordTrouble::SecondLabel(line) => write!(text, " is in line {line} already"),
         _ => put(text, trouble.sentence()),
-    }
-}
-
-/// What is said before words of which one is wanted.
-fn before_choices(choices: &[u8]) -> &'static str {
-    if choices.contains(&b'|') {
-        ": one of "
-    } else {
-        ": "
     }
 }
 
@@ -179,7 +168,7 @@ fn say_near_name(
     }
     match near_name(alloc, names, word)? {
         Some(NearName::Form(form)) => write!(text, "; did you mean {}?", form.name)?,
-        Some(NearName::Step(Form { name, words })) => {
+        Some(NearName::Step(Form { name, words, .. })) => {
             let space = before(words, " ");
             write!(text, "; did you mean the step 2 {name}{space}{words}?")?;
         }
@@ -192,43 +181,34 @@ fn say_near_name(
 /// Says that the label is near which a line means.
 fn say_near_label(text: &mut String, line: OwnLine<'_>) -> Result<(), AllocError> {
     let mut room = Room::new();
-    match line.meaning(&mut room).strip_prefix(b"label ".as_slice()) {
-        Some(name) => {
-            put(text, "; did you mean @")?;
-            put_word(text, name)?;
-            put(text, "?")
-        }
-        None => Ok(()),
+    if let Some(name) = line.meaning(&mut room).strip_prefix(b"label ") {
+        put(text, "; did you mean @")?;
+        put_word(text, name)?;
+        put(text, "?")?;
     }
+    Ok(())
 }
 
 /// Says that no process stands before a call of that form.
 fn say_call_alone(text: &mut String, form: Form) -> Result<(), AllocError> {
-    let Form { name, words } = form;
-    let meaning = meaning_of(form);
+    let Form {
+        name,
+        words,
+        meaning,
+    } = form;
     let space = before(words, " ");
-    put(
-        text,
-        ": a step begins with the number of its process, as in 2 ",
-    )?;
-    write!(
-        text,
-        "{name}{space}{words}{}{meaning}",
-        before(meaning, ": ")
-    )
+    let colon = before(meaning, ": ");
+    put(text, STEP_BEGINS)?;
+    write!(text, " in 2 {name}{space}{words}{colon}{meaning}")
 }
 
 /// Says what a name takes, and how many words it got.
 fn say_takes(text: &mut String, form: Form, got: usize) -> Result<(), AllocError> {
-    let meaning = meaning_of(form);
+    let Form { words, meaning, .. } = form;
+    let no = if words.is_empty() { "no words" } else { "" };
     let colon = before(meaning, ": ");
-    let words = if form.words.is_empty() {
-        "no words"
-    } else {
-        form.words
-    };
     let noun = if got == 1 { "word" } else { "words" };
-    write!(text, " takes {words}{colon}{meaning}; got {got} {noun}")
+    write!(text, " takes {no}{words}{colon}{meaning}; got {got} {noun}")
 }
 
 /// What parts some words from those before them. Nothing where there are none.

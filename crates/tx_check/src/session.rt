@@ -73,10 +73,10 @@ fn session_trouble<'a>(
     let Some(meant) = meant_line(is_third, asked, room) else {
         return Trouble::of_line(line.len() - asked.len() + 1, LineTrouble::Empty);
     };
-    let part = if step.is_some() {
+    let part = if step.is_some() || word_at(meant, 0).is_some_and(begins_step) {
         Part::Step
     } else {
-        part_of(meant)
+        Part::Command
     };
     let trouble = line_trouble(version, meant, step.is_some());
     let trouble = own_trouble(is_third, part, meant, asked, trouble);
@@ -122,14 +122,6 @@ fn asked_step(is_third: bool, line: &[u8]) -> Option<&[u8]>
     Some(step)
 }
 
-/// What the words of a line are looked at as.
-fn part_of(line: &[u8]) -> Part {
-    match word_at(line, 0) {
-        Some(first) if begins_step(first) => Part::Step,
-        _ => Part::Command,
-    }
-}
-
 /// Whether a step may begin with that word.
 fn begins_step(first: Word<'_>) -> bool {
     match first.bytes {
@@ -140,15 +132,12 @@ fn begins_step(first: Word<'_>) -> bool {
 
 /// What is wrong with what a line means, which is to be a step alone, or else may ask for something too.
 fn line_trouble<'a>(version: Version, line: &'a [u8], is_step: bool) -> Trouble<'a> {
-    if let Some(trouble) = shape_trouble(line) {
-        return trouble;
-    }
-    let trouble = match word_at(line, 0) {
+    let trouble = shape_trouble(line).or_else(|| match word_at(line, 0) {
         Some(first) if begins_step(first) => step_trouble(version, line),
         Some(first) if is_step => Some(no_step(first, version, line)),
         Some(first) if first.bytes == b"txos".as_slice() => Some(head_trouble(line)),
         _ => ask_trouble(version, line),
-    };
+    });
     match trouble {
         Some(trouble) => trouble,
         None if is_step => Trouble::of_line(1, LineTrouble::NoStep),
@@ -158,8 +147,6 @@ fn line_trouble<'a>(version: Version, line: &'a [u8], is_step: bool) -> Trouble<
 
 /// What is wrong with a first word that begins no step.
 fn no_step<'a>(first: Word<'a>, version: Version, line: &'a [u8]) -> Trouble<'a> {
-    match call_alone(first, version, line) {
-        Some(trouble) => trouble,
-        None => Trouble::of_word(first, WordTrouble::NoProcess),
-    }
+    let none = Trouble::of_word(first, WordTrouble::NoProcess);
+    call_alone(first, version, line).unwrap_or(none)
 }

@@ -43,13 +43,10 @@ fn role_at(part: Part, line: &[u8], place: usize) -> Role {
         Part::ProgramLine | Part::Link => 0,
         _ => return Role::Other,
     };
-    let Some(name) = word_at(line, name_place) else {
-        return Role::Other;
-    };
-    if place <= name_place {
-        return Role::Other;
+    match word_at(line, name_place) {
+        Some(name) if place > name_place => role_of(name.bytes, place - name_place - 1),
+        _ => Role::Other,
     }
-    role_of(name.bytes, place - name_place - 1)
 }
 
 /// What is wrong with a word that is to be a signal.

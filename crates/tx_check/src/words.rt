@@ -28,13 +28,7 @@ pub fn word_at(line: &[u8], place: usize) -> Option<Word<'_>> {
 pub fn count_words(line: &[u8]) -> usize
     ensures { 1 ≤ result }
 {
-    let mut count = 1;
-    for byte in line {
-        if *byte == b' ' {
-            count += 1;
-        }
-    }
-    count
+    line.iter().filter(|byte| **byte == b' ').count() + 1
 }
 
 /// The column of the first space that parts no two words: one before the first word, behind another

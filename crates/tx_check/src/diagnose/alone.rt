@@ -1,5 +1,5 @@
 //! What is wrong with a call that has no process before it.
-use crate::diagnose::calls::call_trouble;
+use crate::diagnose::calls::{call_trouble, sends_signal};
 use crate::forms::{CALLS, Form, form_of};
 use crate::trouble::{Trouble, WordTrouble};
 use crate::words::Word;
@@ -20,18 +20,11 @@ pub fn call_alone<'a>(first: Word<'a>, version: Version, line: &'a [u8]) -> Opti
 /// Whether a line is a whole call. The words behind a `kill` may be the signal and the process, as a
 /// shell has them.
 fn is_whole(form: Form, version: Version, line: &[u8]) -> bool {
-    if form.name == "kill" || form.name == "sigqueue" {
-        return false;
-    }
-    call_trouble(TextKind::Schedule, version, line, 0).is_none()
+    !sends_signal(form) && call_trouble(TextKind::Schedule, version, line, 0).is_none()
 }
 
 /// The letters, digits and `_` with which a word begins.
 fn name_in(word: &[u8]) -> &[u8] {
-    for at in 0..word.len() {
-        if !word[at].is_ascii_alphanumeric() && word[at] != b'_' {
-            return &word[..at];
-        }
-    }
-    word
+    let mut parts = word.split(|byte| !byte.is_ascii_alphanumeric() && *byte != b'_');
+    parts.next().unwrap_or(word)
 }

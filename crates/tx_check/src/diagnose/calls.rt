@@ -3,7 +3,7 @@ use crate::diagnose::fields::field_trouble;
 use crate::diagnose::numbers::is_signal_name;
 use crate::forms::{CALLS, Form, field_of, form_of};
 use crate::trouble::{LineTrouble, Names, Trouble, WordTrouble};
-use crate::words::{Word, count_words, word_at};
+use crate::words::{count_words, word_at};
 use tx_lines::{TextKind, Version};
 
 /// What is wrong with the call whose name stands at that place of a line.
@@ -14,39 +14,14 @@ pub fn call_trouble<'a>(
     place: usize,
 ) -> Option<Trouble<'a>> {
     let name = word_at(line, place)?;
-    let Some(form) = call_form(kind, name.bytes) else {
-        return Some(no_such_call(kind, name));
+    if let Some(form) = call_form(kind, name.bytes) {
+        return form_trouble(kind, version, form, line, place);
+    }
+    let names = match kind {
+        TextKind::Schedule => Names::Calls,
+        TextKind::Program => Names::Instructions,
     };
-    let behind = count_words(line).saturating_sub(place).saturating_sub(1);
-    let words = words_of(form, line, place);
-    if behind != count_of(words) {
-        return Some(Trouble::of_word(name, WordTrouble::Takes(form, behind)));
-    }
-    if let Some(trouble) = signal_first(form, line, place) {
-        return Some(trouble);
-    }
-    if let Some(trouble) = arguments_trouble(kind, words, line, place) {
-        return Some(trouble);
-    }
-    match version {
-        Version::One if words == "defer" => {
-            Some(Trouble::of_line(name.column, LineTrouble::DeferIsLater))
-        }
-        _ => None,
-    }
-}
-
-/// What is wrong with a call that sends a signal, where the signal is first, as a shell has it.
-fn signal_first<'a>(form: Form, line: &'a [u8], place: usize) -> Option<Trouble<'a>> {
-    if form.name != "kill" && form.name != "sigqueue" {
-        return None;
-    }
-    let first = word_at(line, place.saturating_add(1))?;
-    let name = first.bytes.strip_prefix(b"-").unwrap_or(first.bytes);
-    if is_signal_name(name) {
-        return Some(Trouble::of_word(first, WordTrouble::SignalFirst));
-    }
-    None
+    Some(Trouble::of_word(name, WordTrouble::NoSuch(names)))
 }
 
 /// The form of the call of that name in a text of that kind. A program has no deliveries, and
@@ -55,32 +30,51 @@ fn call_form(kind: TextKind, name: &[u8]) -> Option<Form> {
     let form = form_of(CALLS.as_slice(), name)?;
     match (kind, form.name) {
         (TextKind::Program, "deliver") => None,
-        (TextKind::Program, "fork" | "pipe") => Some(Form { words: "", ..form }),
+        (TextKind::Program, "fork" | "pipe") => Some(Form {
+            words: "",
+            meaning: "",
+            ..form
+        }),
         _ => Some(form),
     }
 }
 
-/// A name that no call of a text of that kind has.
-fn no_such_call<'a>(kind: TextKind, name: Word<'a>) -> Trouble<'a> {
-    let names = match kind {
-        TextKind::Schedule => Names::Calls,
-        TextKind::Program => Names::Instructions,
-    };
-    Trouble::of_word(name, WordTrouble::NoSuch(names))
-}
-
-/// What is wrong with the words behind the first one of a line, which has that form.
+/// What is wrong with a line that has a name of that form at that place.
 pub fn form_trouble<'a>(
     kind: TextKind,
+    version: Version,
     form: Form,
-    first: Word<'a>,
     line: &'a [u8],
+    place: usize,
 ) -> Option<Trouble<'a>> {
-    let behind = count_words(line).saturating_sub(1);
-    if behind != count_of(form.words) {
-        return Some(Trouble::of_word(first, WordTrouble::Takes(form, behind)));
+    let name = word_at(line, place)?;
+    let behind = count_words(line).saturating_sub(place).saturating_sub(1);
+    let words = words_of(form, line, place);
+    if behind != count_of(words) {
+        return Some(Trouble::of_word(name, WordTrouble::Takes(form, behind)));
     }
-    arguments_trouble(kind, form.words, line, 0)
+    let trouble = signal_first(form, line, place).or_else(|| arguments_trouble(
+        kind, words, line, place,
+    ));
+    let later = match (version, form.name, words) {
+        (Version::One, "sys_xbegin", "defer") => LineTrouble::DeferIsLater,
+        (Version::One, "moved", _) => LineTrouble::MovedIsLater,
+        _ => return trouble,
+    };
+    trouble.or(Some(Trouble::of_line(name.column, later)))
+}
+
+/// What is wrong with a call that sends a signal, where the signal is first, as a shell has it.
+fn signal_first<'a>(form: Form, line: &'a [u8], place: usize) -> Option<Trouble<'a>> {
+    let first = word_at(line, place.saturating_add(1))?;
+    let name = first.bytes.strip_prefix(b"-").unwrap_or(first.bytes);
+    let is_first = sends_signal(form) && is_signal_name(name);
+    is_first.then_some(Trouble::of_word(first, WordTrouble::SignalFirst))
+}
+
+/// Whether the call of that form sends a signal.
+pub fn sends_signal(form: Form) -> bool {
+    form.name == "kill" || form.name == "sigqueue"
 }
 
 /// How many words a form has.
@@ -94,29 +88,17 @@ pub fn count_of(words: &str) -> usize {
 /// The words of a form, where it has several ways: the one that is taken by the call whose name
 /// stands at that place.
 fn words_of(form: Form, line: &[u8], place: usize) -> &'static str {
-    match form.name {
-        "sys_xbegin" if word_at(line, place.saturating_add(1)).is_none() => "",
-        "sys_xbegin" => "defer",
-        "sigaction" => action_words(word_at(line, place.saturating_add(2))),
-        "jump" => jump_words(word_at(line, place.saturating_add(2))),
+    let first = word_at(line, place.saturating_add(1));
+    let second = word_at(line, place.saturating_add(2));
+    match (form.name, second.map_or(b"".as_slice(), |word| word.bytes)) {
+        ("sys_xbegin", _) if first.is_none() => "",
+        ("sys_xbegin", _) => "defer",
+        ("sigaction", b"catch") => "V catch POINT SET",
+        ("sigaction", _) => "V default|ignore|catch",
+        ("jump", b"if") => "POINT if V",
+        ("jump", b"always") => "POINT always",
+        ("jump", _) => "POINT always|if",
         _ => form.words,
-    }
-}
-
-/// What a sigaction takes, by what is done about the signal.
-fn action_words(action: Option<Word<'_>>) -> &'static str {
-    match action {
-        Some(word) if word.bytes == b"catch".as_slice() => "V catch POINT SET",
-        _ => "V default|ignore|catch",
-    }
-}
-
-/// What a jump takes, by when it is made.
-fn jump_words(when: Option<Word<'_>>) -> &'static str {
-    match when {
-        Some(word) if word.bytes == b"if".as_slice() => "POINT if V",
-        Some(word) if word.bytes == b"always".as_slice() => "POINT always",
-        _ => "POINT always|if",
     }
 }
 
@@ -127,14 +109,13 @@ fn arguments_trouble<'a>(
     line: &'a [u8],
     place: usize,
 ) -> Option<Trouble<'a>> {
-    let mut at = place.saturating_add(1);
-    for field_place in 0..count_of(words) {
-        let field = word_at(words.as_bytes(), field_place)?;
-        let word = word_at(line, at)?;
-        if let Some(trouble) = field_trouble(kind, field_of(field.bytes), word) {
-            return Some(trouble);
+    for at in 0..count_of(words) {
+        let field = word_at(words.as_bytes(), at)?;
+        let word = word_at(line, place.saturating_add(at).saturating_add(1))?;
+        let trouble = field_trouble(kind, field_of(field.bytes), word);
+        if trouble.is_some() {
+            return trouble;
         }
-        at = at.saturating_add(1);
     }
     None
 }

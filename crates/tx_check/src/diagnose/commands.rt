@@ -8,17 +8,9 @@ use tx_lines::{TextKind, Version, read_pid};
 /// What is wrong with the words of a line that is to be a command.
 pub fn command_trouble<'a>(version: Version, line: &'a [u8]) -> Option<Trouble<'a>> {
     let name = word_at(line, 0)?;
-    let Some(form) = form_of(COMMANDS.as_slice(), name.bytes) else {
-        return Some(no_command(name));
-    };
-    if let Some(trouble) = form_trouble(TextKind::Schedule, form, name, line) {
-        return Some(trouble);
-    }
-    match version {
-        Version::One if form.name == "moved" => {
-            Some(Trouble::of_line(name.column, LineTrouble::MovedIsLater))
-        }
-        _ => None,
+    match form_of(COMMANDS.as_slice(), name.bytes) {
+        Some(form) => form_trouble(TextKind::Schedule, version, form, line, 0),
+        None => Some(no_command(name)),
     }
 }
 

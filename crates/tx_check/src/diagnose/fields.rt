@@ -23,23 +23,15 @@ pub fn field_trouble<'a>(kind: TextKind, field: Field, word: Word<'a>) -> Option
         (_, Field::Name) => name_trouble(word.bytes, word),
         (_, Field::Bytes) => bytes_trouble(word),
         (_, Field::Signals) => signals_trouble(word),
-        (_, Field::Choice(choices)) => choice_trouble(choices, word),
+        (_, Field::Choice(choices)) if is_among(choices, word.bytes) => None,
+        (_, Field::Choice(choices)) => Some(Trouble::of_word(word, WordTrouble::NoneOf(choices))),
         _ => number_trouble(field, word),
     }
 }
 
 /// What is wrong where that name is wanted in a word.
 fn name_trouble<'a>(name: &[u8], word: Word<'a>) -> Option<Trouble<'a>> {
-    match read_name(name) {
-        Some(_name) => None,
-        None => Some(Trouble::of_word(word, WordTrouble::NoName)),
-    }
-}
-
-/// What is wrong where one of some words is wanted.
-fn choice_trouble<'a>(choices: &'static [u8], word: Word<'a>) -> Option<Trouble<'a>> {
-    if is_among(choices, word.bytes) {
-        return None;
-    }
-    Some(Trouble::of_word(word, WordTrouble::NoneOf(choices)))
+    read_name(name)
+        .is_none()
+        .then_some(Trouble::of_word(word, WordTrouble::NoName))
 }

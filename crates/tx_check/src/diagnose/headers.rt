@@ -2,7 +2,7 @@
 use crate::diagnose::numbers::no_number;
 use crate::trouble::{LineTrouble, Trouble, WordTrouble};
 use crate::words::{Word, count_words, word_at};
-use tx_base::{PROCESSES, Pid, WIDE_PROCESSES};
+use tx_base::{PROCESSES, WIDE_PROCESSES};
 use tx_lines::{TextKind, read_pid};
 
 /// What is wrong with the words of the first line of such a text.
@@ -35,7 +35,7 @@ pub fn count_trouble<'a>(
     if text_kind.bytes != name {
         return Some(Trouble::of_word(text_kind, WordTrouble::NoTextKind));
     }
-    if is_count(most, count.bytes) {
+    if read_pid(count.bytes).is_some_and(|pid| pid.0 > 0 && pid.0 <= most) {
         return None;
     }
     let range = if most == PROCESSES {
@@ -44,12 +44,4 @@ pub fn count_trouble<'a>(
         "1 to 256"
     };
     Some(no_number(count, range))
-}
-
-/// Whether a word is a number of 1 to so many.
-fn is_count(most: u16, word: &[u8]) -> bool {
-    match read_pid(word) {
-        Some(Pid(count)) => count > 0 && count <= most,
-        None => false,
-    }
 }

@@ -62,12 +62,11 @@ fn label_named<'a>(text: &Labels<'_>, line: &'a [u8]) -> Word<'a>
     requires { AreKnown text.now }
 {
     for place in 0..count_words(line) {
-        if let Some(word) = word_at(line, place) {
-            if let [b'@', name @ ..] = word.bytes {
-                if text.place_of(name).is_none() {
-                    return word;
-                }
-            }
+        if let Some(word) = word_at(line, place)
+            && let [b'@', name @ ..] = word.bytes
+            && text.place_of(name).is_none()
+        {
+            return word;
         }
     }
     Word {

@@ -20,36 +20,27 @@ pub fn number_trouble<'a>(field: Field, word: Word<'a>) -> Option<Trouble<'a>> {
             "-9223372036854775808 to 9223372036854775807",
         ),
     };
-    if is_one {
-        return None;
-    }
-    Some(no_number(word, range))
+    (!is_one).then(|| no_number(word, range))
 }
 
 /// Whether a word is a point of a schedule.
 fn is_point(word: &[u8]) -> bool {
-    match number(word) {
-        Some(point) => u32::try_from(point).is_ok(),
-        None => false,
-    }
+    number(word).is_some_and(|point| u32::try_from(point).is_ok())
 }
 
 /// What is wrong with a word that is no number of that range.
 pub fn no_number<'a>(word: Word<'a>, range: &'static str) -> Trouble<'a> {
-    if word.bytes.starts_with(b"SIG") || is_signal_name(word.bytes) {
-        return Trouble::of_word(word, WordTrouble::SignalName);
-    }
-    let digits = word
-        .bytes
-        .strip_prefix(b"-".as_slice())
-        .unwrap_or(word.bytes);
-    if digits.is_empty() || !digits.iter().all(|byte| byte.is_ascii_digit()) {
-        return Trouble::of_word(word, WordTrouble::NoNumber);
-    }
-    if digits[0] == b'0' && word.bytes.len() > 1 {
-        return Trouble::of_word(word, WordTrouble::ZeroBefore);
-    }
-    Trouble::of_word(word, WordTrouble::OutOfRange(range))
+    let digits = word.bytes.strip_prefix(b"-").unwrap_or(word.bytes);
+    let trouble = if word.bytes.starts_with(b"SIG") || is_signal_name(word.bytes) {
+        WordTrouble::SignalName
+    } else if digits.is_empty() || !digits.iter().all(|byte| byte.is_ascii_digit()) {
+        WordTrouble::NoNumber
+    } else if digits[0] == b'0' && word.bytes.len() > 1 {
+        WordTrouble::ZeroBefore
+    } else {
+        WordTrouble::OutOfRange(range)
+    };
+    Trouble::of_word(word, trouble)
 }
 
 /// Whether a word is the name of a signal.

@@ -9,13 +9,14 @@ use tx_lines::{TextKind, Version, read_pid};
 const LABEL: Form = Form {
     name: "label",
     words: "NAME",
+    meaning: "the label's name",
 };
 
 /// What is wrong with the words of a line of a program after the first.
 pub fn program_line_trouble<'a>(version: Version, line: &'a [u8]) -> Option<Trouble<'a>> {
     let first = word_at(line, 0)?;
     if first.bytes == b"label".as_slice() {
-        return form_trouble(TextKind::Program, LABEL, first, line);
+        return form_trouble(TextKind::Program, version, LABEL, line, 0);
     }
     if first.bytes == b"debug".as_slice() {
         return Some(Trouble::of_line(first.column, LineTrouble::DebugInProgram));

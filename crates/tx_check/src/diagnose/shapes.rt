@@ -22,23 +22,16 @@ pub fn shape_trouble(line: &[u8]) -> Option<Trouble<'static>> {
     if line.starts_with(b"//") || line.starts_with(b"/*") || line.starts_with(b";") {
         return Some(Trouble::of_line(1, LineTrouble::OtherComment));
     }
-    if let Some(trouble) = odd_byte(line) {
-        return Some(trouble);
-    }
-    let column = odd_space(line)?;
-    Some(Trouble::of_line(column, LineTrouble::Space))
+    let space = |column| Trouble::of_line(column, LineTrouble::Space);
+    odd_byte(line).or_else(|| odd_space(line).map(space))
 }
 
 /// The first byte of a line that is neither a space nor a character of ASCII.
 fn odd_byte(line: &[u8]) -> Option<Trouble<'static>> {
-    for at in 0..line.len() {
-        let byte = line[at];
-        if byte != b' ' && !byte.is_ascii_graphic() {
-            return Some(Trouble {
-                column: at + 1,
-                what: What::OddByte(byte),
-            });
-        }
-    }
-    None
+    let is_odd = |byte: &u8| *byte != b' ' && !byte.is_ascii_graphic();
+    let at = line.iter().position(is_odd)?;
+    Some(Trouble {
+        column: at + 1,
+        what: What::OddByte(line[at]),
+    })
 }

@@ -7,31 +7,23 @@ use tx_signal::is_known;
 
 /// What is wrong where a set of signals is wanted.
 pub fn signals_trouble<'a>(word: Word<'a>) -> Option<Trouble<'a>> {
-    if read_set(word.bytes).is_some() {
-        return None;
-    }
-    Some(Trouble::of_word(word, in_members(word.bytes)))
+    read_set(word.bytes)
+        .is_none()
+        .then(|| Trouble::of_word(word, in_members(word.bytes)))
 }
 
 /// What is wrong with a word that is no set: the first of its members that is no signal's number,
 /// or not above the one before.
 fn in_members(word: &[u8]) -> WordTrouble<'_> {
     let mut above = 0;
-    let mut start = 0;
-    for at in 0..word.len() {
-        if word[at] == b',' {
-            match member(&word[start..at]) {
-                Ok(signo) if signo > above => above = signo,
-                Ok(_signo) => return WordTrouble::NotRising,
-                Err(trouble) => return trouble,
-            }
-            start = at + 1;
+    for part in word.split(|byte| *byte == b',') {
+        match member(part) {
+            Ok(signo) if signo > above => above = signo,
+            Ok(_signo) => return WordTrouble::NotRising,
+            Err(trouble) => return trouble,
         }
     }
-    match member(&word[start..]) {
-        Ok(_signo) => WordTrouble::NotRising,
-        Err(trouble) => trouble,
-    }
+    WordTrouble::NotRising
 }
 
 /// The signal that a word in a set names, or what is wrong with it.

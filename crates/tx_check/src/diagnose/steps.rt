@@ -11,13 +11,14 @@ use tx_lines::{TextKind, Version, read_pid};
 const KERNEL: Form = Form {
     name: "kernel",
     words: "P",
+    meaning: "the process that began the transaction to be aborted",
 };
 
 /// What is wrong with the words of a line that is to be a step.
 pub fn step_trouble<'a>(version: Version, line: &'a [u8]) -> Option<Trouble<'a>> {
     let first = word_at(line, 0)?;
     if first.bytes == b"kernel".as_slice() {
-        return form_trouble(TextKind::Schedule, KERNEL, first, line);
+        return form_trouble(TextKind::Schedule, version, KERNEL, line, 0);
     }
     if read_pid(first.bytes).is_none() {
         return Some(no_process(first, version, line));

@@ -1,8 +1,8 @@
 //! What is wrong with a line of a session that is to ask for something.
 use crate::diagnose::alone::call_alone;
-use crate::diagnose::numbers::number_trouble;
-use crate::forms::{Field, Form, SESSION, form_of};
-use crate::session::pieces::piece_trouble;
+use crate::diagnose::calls::count_of;
+use crate::forms::{SESSION, form_of};
+use crate::session::pieces::{numbers_trouble, piece_trouble};
 use crate::trouble::{LineTrouble, Names, Trouble, WordTrouble};
 use crate::words::{Word, count_words, word_at};
 use tx_lines::Version;
@@ -14,7 +14,7 @@ pub fn ask_trouble<'a>(version: Version, line: &'a [u8]) -> Option<Trouble<'a>> 
         return Some(no_ask(name, version, line));
     };
     let behind = count_words(line).saturating_sub(1);
-    let (least, most) = words_taken(form.name);
+    let (least, most) = words_taken(form.words);
     if behind < least || behind > most {
         return Some(Trouble::of_word(name, WordTrouble::Takes(form, behind)));
     }
@@ -22,42 +22,29 @@ pub fn ask_trouble<'a>(version: Version, line: &'a [u8]) -> Option<Trouble<'a>> 
         Version::One if form.name == "moved" => {
             Some(Trouble::of_line(name.column, LineTrouble::MovedIsLater))
         }
-        _ => words_trouble(form, line),
+        _ => words_trouble(form.words, line),
     }
 }
 
-/// How many words there may be behind the name of a command, at least and at most.
-fn words_taken(name: &str) -> (usize, usize) {
-    match name {
-        "goto" | "moved" | "without" => (1, 1),
-        "steps" => (0, 2),
-        "owns" => (0, 1),
-        "when" | "next" => (1, usize::MAX),
-        "try" => (1, usize::MAX),
-        "why" | "help" => (0, usize::MAX),
-        _ => (0, 0),
+/// How many words a command with those takes, at least and at most: those in brackets may be left
+/// out, and some stand for all the rest of a line.
+fn words_taken(words: &str) -> (usize, usize) {
+    let count = count_of(words);
+    let brackets = words.as_bytes().iter().filter(|byte| **byte == b'[');
+    let least = count.saturating_sub(brackets.count());
+    match words {
+        "STEP" | "[STEP]" | "PIECE" | "[WORD]" => (least, usize::MAX),
+        _ => (least, count),
     }
 }
 
-/// What is wrong with the words behind the name of a command.
-fn words_trouble<'a>(form: Form, line: &'a [u8]) -> Option<Trouble<'a>> {
-    match form.name {
-        "when" | "next" => piece_trouble(line),
-        "owns" | "without" => number_trouble(Field::Process, word_at(line, 1)?),
-        "goto" | "moved" | "steps" => positions_trouble(line),
-        _ => None,
+/// What is wrong with the words behind the name of a command with those.
+fn words_trouble<'a>(words: &'static str, line: &'a [u8]) -> Option<Trouble<'a>> {
+    match words {
+        "PIECE" => piece_trouble(line),
+        "STEP" | "[STEP]" | "[WORD]" => None,
+        _ => numbers_trouble(words, line, 1),
     }
-}
-
-/// What is wrong with the positions behind the first word.
-fn positions_trouble<'a>(line: &'a [u8]) -> Option<Trouble<'a>> {
-    for place in 1..count_words(line) {
-        let word = word_at(line, place)?;
-        if let Some(trouble) = number_trouble(Field::Position, word) {
-            return Some(trouble);
-        }
-    }
-    None
 }
 
 /// What is wrong with a first word that is the name of no command.
@@ -68,8 +55,6 @@ fn no_ask<'a>(name: Word<'a>, version: Version, line: &'a [u8]) -> Trouble<'a> {
     if name.bytes == b"label".as_slice() {
         return Trouble::of_line(name.column, LineTrouble::LabelInSchedule);
     }
-    match call_alone(name, version, line) {
-        Some(trouble) => trouble,
-        None => Trouble::of_word(name, WordTrouble::NoSuch(Names::Session)),
-    }
+    let none = Trouble::of_word(name, WordTrouble::NoSuch(Names::Session));
+    call_alone(name, version, line).unwrap_or(none)
 }

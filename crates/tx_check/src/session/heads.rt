@@ -7,10 +7,7 @@ use tx_lines::TextKind;
 
 /// What is wrong with a line that begins with `txos`. A header that can be may come no more.
 pub fn head_trouble<'a>(line: &'a [u8]) -> Trouble<'a> {
-    match words_trouble(line) {
-        Some(trouble) => trouble,
-        None => Trouble::of_line(1, LineTrouble::HeaderLate),
-    }
+    words_trouble(line).unwrap_or(Trouble::of_line(1, LineTrouble::HeaderLate))
 }
 
 /// What is wrong with the words of such a line. Nothing where they are a header's.

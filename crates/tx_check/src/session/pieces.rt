@@ -15,20 +15,24 @@ pub fn piece_trouble<'a>(line: &'a [u8]) -> Option<Trouble<'a>> {
     if behind != count_of(form.words) {
         return Some(Trouble::of_word(name, WordTrouble::Takes(form, behind)));
     }
-    numbers_trouble(form.words, line)
+    numbers_trouble(form.words, line, 2)
 }
 
-/// What is wrong with the numbers behind the name of a piece.
-fn numbers_trouble<'a>(words: &'static str, line: &'a [u8]) -> Option<Trouble<'a>> {
-    for place in 0..count_of(words) {
-        let letter = word_at(words.as_bytes(), place)?;
-        let field = match letter.bytes {
-            b"P" | b"S" => Field::Process,
+/// What is wrong with the numbers that stand for those words from that place of a line on.
+pub fn numbers_trouble<'a>(
+    words: &'static str,
+    line: &'a [u8],
+    place: usize,
+) -> Option<Trouble<'a>> {
+    for at in 0..count_of(words) {
+        let field = match word_at(words.as_bytes(), at)?.bytes {
+            [b'P' | b'S', ..] | [b'[', b'P' | b'S', ..] => Field::Process,
+            [b'K' | b'L', ..] | [b'[', b'K' | b'L', ..] => Field::Position,
             _ => Field::Small,
         };
-        let number = word_at(line, place.saturating_add(2))?;
-        if let Some(trouble) = number_trouble(field, number) {
-            return Some(trouble);
+        let trouble = number_trouble(field, word_at(line, place.saturating_add(at))?);
+        if trouble.is_some() {
+            return trouble;
         }
     }
     None

@@ -19,12 +19,9 @@ pub fn string_trouble<'a>(
         return None;
     }
     let string = string_left(line, own)?;
-    match what {
-        What::Word(_word, WordTrouble::Takes(..)) => {}
-        _ if column < string.column => return None,
-        _ => {}
-    }
-    Some(Trouble::of_word(string, wrong_in(string.bytes)))
+    let may_come_of_it = column >= string.column
+        || matches!(what, What::Word(_, WordTrouble::Takes(..)));
+    may_come_of_it.then(|| Trouble::of_word(string, wrong_in(string.bytes)))
 }
 
 /// The first string of an own line that stands in the line of version 2 as it is. No word before it

@@ -1,4 +1,5 @@
-use Rattle.std.proofs.Common.{ap, refl, string_bytes, subst, sym, ◌∙◌, ◌≡◌, []}
+use Rattle.std.proofs.lemmas.Grind.{common_steps}
+use Rattle.std.proofs.Common.{ap, arith, length, ◌≢◌, string_bytes, subst, ◌∙◌, ◌≡◌, []}
 use Rattle.tx_check.specs.Kinds.{kind_of}
 use Rattle.tx_check.specs.Readers.{kind_for, kind_read}
 use Rattle.tx_check.specs.Reads.{IsRead}
@@ -12,7 +13,7 @@ told_of_kind-requires c =
     let text = c.args.text.now in
     let same : c.kind.result ≡ kind_read c.args.reader (meant_of text) =
     c.kind.ensures ∙ ap (kind_for c.args.reader) (c.kind_of-meant.ensures ∙ ap kind_of c.of.ensures.left) in
-    let none : string_bytes c.in_ok-told.told ≡ [] = sym c.as_str.ensures.value ∙ c.if-is_nothing.ensures.nothing refl in
+    let none : string_bytes c.in_ok-told.told ≡ [] = grind (arith, common_steps) in
     subst (λ (k : Kind). IsRead k (meant_of text)) same (c.in_ok-told.ensures.silent.0 none)
 
 pub returns : goal.returns
@@ -20,4 +21,5 @@ returns c =
     let text = c.args.text.now in
     let same : c.kind.result ≡ kind_read c.args.reader (meant_of text) =
     c.kind.ensures ∙ ap (kind_for c.args.reader) (c.kind_of-meant.ensures ∙ ap kind_of c.of.ensures.left) in
-    some_told c.args.reader c.kind.result text (string_bytes c.in_ok-told.told) same c.in_ok-told.ensures (λ none. c.if-is_nothing.ensures.something refl (c.as_str.ensures.value ∙ none))
+    let some : string_bytes c.in_ok-told.told ≢ [] = λ none. let zero : length (string_bytes c.in_ok-told.told) ≡ 0 = ap length none in absurd (grind (arith, common_steps)) in
+    some_told c.args.reader c.kind.result text (string_bytes c.in_ok-told.told) same c.in_ok-told.ensures some

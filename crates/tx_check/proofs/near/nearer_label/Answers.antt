@@ -1,10 +1,17 @@
 use Rattle.std.proofs.Common.{◌++◌, ◌∷◌, [], List, ℕ, option_map, subst}
+use Rattle.tx_check.proofs.FaultKinds.{ok_map}
 use Rattle.tx_check.proofs.NearNames.{with_label_name}
-use Rattle.tx_check.specs.Near.{near, FindsNear}
+use Rattle.tx_check.specs.Near.{near, with_name, FindsNear}
 use Rattle.tx_plain.specs.MeantLines.{line_of}
 use Rattle.tx_check.proofs.near.nearer_label.Goals as goal
 
-pub returns-in_ok-next-in-Some : goal.returns-in_ok-next-in-Some
-returns-in_ok-next-in-Some c = λ names is.
-    rw (with_label_name (line_of c.args.line) names c.in-Some.ensures.label)
-    (subst (λ (name : List ℕ). FindsNear c.args.word.now (names ++ name ∷ []) 5 (option_map near c.in_ok-next-in-Some.next)) c.in-Some.ensures.name (c.in_ok-next-in-Some.ensures names is))
+pub returns-in-Some : goal.returns-in-Some
+returns-in-Some c =
+    let word = c.args.word.now in
+    let line = line_of c.args.line in
+    ok_map c.nearer.result (λ next. (names : List (List ℕ)) → FindsNear word names 5 (option_map near c.args.nearest) → FindsNear word (names ++ c.in-Some.name.now ∷ []) 5 (option_map near next))
+    (λ next. (names : List (List ℕ)) → FindsNear word names 5 (option_map near c.args.nearest) → FindsNear word (with_name line names) 5 (option_map near next))
+    (λ next more names is.
+    rw (with_label_name line names c.in-Some.ensures.label)
+    (subst (λ (name : List ℕ). FindsNear word (names ++ name ∷ []) 5 (option_map near next)) c.in-Some.ensures.name (more names is)))
+    c.nearer.ensures

@@ -3,8 +3,12 @@ use Rattle.tx_check.proofs.FaultKinds.{of_grammar}
 use Rattle.tx_check.specs.Speaking.{kind_of_what, IsFitting}
 use Rattle.tx_check.proofs.placed.placed.Goals as goal
 
-pub returns-then-is_of_length-clause-line : goal.returns-then-is_of_length-clause-line
-returns-then-is_of_length-clause-line c = c.is_of_length.ensures.line c.if-is_of_length.true c.within-trouble.result.column
+pub returns-then-is_of_length-clause-placed : goal.returns-then-is_of_length-clause-placed
+returns-then-is_of_length-clause-placed c = record {
+  column = c.within-trouble.ensures.column;
+  in_line = c.is_of_length.ensures.line c.if-is_of_length.true c.within-trouble.result.column;
+  word = rw (c.is_of_length.ensures.word c.if-is_of_length.true) tt;
+}
 
 pub returns-in-Some-clause-kind : goal.returns-in-Some-clause-kind
 returns-in-Some-clause-kind c = λ fits. c.no_label.ensures.kind ∙ sym c.in-Some.ensures.label ∙ ap kind_of_what c.within-trouble.ensures.what

@@ -12,9 +12,9 @@ returns c =
     record {
       column = found.result.column;
       sentence = said;
-      inside = found.ensures.column;
+      inside = found.ensures.placed.column;
       in_line = subst IsInLine (sym c.as_str.ensures.value) c.in_ok-words.ensures.in_line;
       speaks = subst (λ (s : List ℕ). SpeaksAt c.args.line.now found.result.column s) (sym c.as_str.ensures.value)
-          (speaks found.result.what c.args.line.now found.result.column _ found.ensures.line found.ensures.word c.in_ok-words.ensures.line c.in_ok-words.ensures.word);
+          (speaks found.result.what c.args.line.now found.result.column _ found.ensures.placed.in_line found.ensures.placed.word c.in_ok-words.ensures.line c.in_ok-words.ensures.word);
       spelled = c.in_ok-put_column.ensures ∙ ap (λ (t : List ℕ). t ++ (codes "column " ++ (decimal found.result.column ++ (codes ": " ++ said)))) c.new-told.ensures.bytes;
     }

@@ -8,7 +8,7 @@ pub put_told-requires-clause-speaks : goal.put_told-requires-clause-speaks
 put_told-requires-clause-speaks c =
     let found = c.placed-trouble in
     subst (λ (s : List ℕ). SpeaksAt c.args.line.bytes.now found.result.column s) (sym c.as_str.ensures.value)
-    (speaks found.result.what c.args.line.bytes.now found.result.column _ found.ensures.line found.ensures.word c.in_ok-words.ensures.line c.in_ok-words.ensures.word)
+    (speaks found.result.what c.args.line.bytes.now found.result.column _ found.ensures.placed.in_line found.ensures.placed.word c.in_ok-words.ensures.line c.in_ok-words.ensures.word)
 
 pub returns-clause-kind : goal.returns-clause-kind
 returns-clause-kind c = λ fits.

@@ -6,29 +6,14 @@ use Rattle.tx_check.specs.declared.labels.LabelLine.{LabelLine}
 use Rattle.tx_plain.specs.MeantLines.{left_of}
 use Rattle.tx_check.proofs.labels.Labels.known_place.Goals as goal
 
-pub returns-then-means_label-clause-some : goal.returns-then-means_label-clause-some
-returns-then-means_label-clause-some c =
-    let labels = c.args.self.now in
-    let at = c.loop-at.at in
-    let inside : at < length c.as_slice.result.now = omega (arith, c.loop-at-test.true, c.len-at-end.ensures.value, ap length c.as_slice.ensures.value) in
-    let so = subst (λ (known : List LabelLine). SoughtTo (left_of labels.text) labels.passed c.args.name.now (map label_at (drop at known))) (sym c.as_slice.ensures.value) c.loop-at.invariant in
-    (next_known (left_of labels.text) labels.passed c.args.name.now c.as_slice.result.now at _ inside so).some
-
-pub returns-then-means_label-clause-found : goal.returns-then-means_label-clause-found
-returns-then-means_label-clause-found c =
-    let labels = c.args.self.now in
-    let at = c.loop-at.at in
-    let inside : at < length c.as_slice.result.now = omega (arith, c.loop-at-test.true, c.len-at-end.ensures.value, ap length c.as_slice.ensures.value) in
-    let so = subst (λ (known : List LabelLine). SoughtTo (left_of labels.text) labels.passed c.args.name.now (map label_at (drop at known))) (sym c.as_slice.ensures.value) c.loop-at.invariant in
-    sym (next_known (left_of labels.text) labels.passed c.args.name.now c.as_slice.result.now at _ inside so).at ∙ c.means_label.ensures.0 c.if-means_label.true
-
 pub returns-then-means_label-clause-first : goal.returns-then-means_label-clause-first
-returns-then-means_label-clause-first c = λ earlier some below.
+returns-then-means_label-clause-first c =
     let labels = c.args.self.now in
     let at = c.loop-at.at in
     let inside : at < length c.as_slice.result.now = omega (arith, c.loop-at-test.true, c.len-at-end.ensures.value, ap length c.as_slice.ensures.value) in
     let so = subst (λ (known : List LabelLine). SoughtTo (left_of labels.text) labels.passed c.args.name.now (map label_at (drop at known))) (sym c.as_slice.ensures.value) c.loop-at.invariant in
-    first_named (left_of labels.text) labels.passed c.args.name.now _ _ _ (next_known (left_of labels.text) labels.passed c.args.name.now c.as_slice.result.now at _ inside so) earlier some below
+    let next = next_known (left_of labels.text) labels.passed c.args.name.now c.as_slice.result.now at _ inside so in
+    record { some = next.some; found = sym next.at ∙ c.means_label.ensures.0 c.if-means_label.true; first = first_named (left_of labels.text) labels.passed c.args.name.now _ _ _ next }
 
 pub loop-at-preserved : goal.loop-at-preserved
 loop-at-preserved c =
