@@ -1,13 +1,13 @@
 -- What notes tell of a history is what the history tells.
-use Rattle.std.proofs.Common.{◌≡◌, ℕ, suc, get_or, subst, ◌+◌, ◌-◌, ◌<◌, ◌≤◌, true, false, ◌&&◌, List, [], ◌∷◌, ◌++◌, Option, None, length, option_map, take, drop, nat_lt, if◌then◌else◌, arith, refl, sym, ap, ◌∙◌, eqb-true, le-ltb, length-append}
+use Rattle.std.proofs.Common.{◌≡◌, ℕ, suc, get_or, subst, ◌+◌, ◌-◌, ◌<◌, ◌≤◌, true, false, not, ◌&&◌, List, [], ◌∷◌, ◌++◌, Option, None, length, option_map, reverse, take, drop, nat_lt, if◌then◌else◌, arith, refl, sym, ap, ◌∙◌, eqb-true, le-ltb, length-append}
 use Rattle.std.proofs.Math.Seq.{drop-append_seam, take-append_seam}
 use Rattle.std.proofs.lemmas.List.{length-take-le}
 use Rattle.tx_base.specs.declared.steps.Accepted.{Accepted}
 use Rattle.tx_journal.proofs.Parting.{back_more}
 use Rattle.tx_journal.proofs.Walked.{history_length, history_parts, history_to, lawful_to}
 use Rattle.tx_journal.specs.Entries.{accepted_of, history_of}
-use Rattle.tx_journal.specs.Moved.{moved_at, numbers_parted, told_by, told_of}
-use Rattle.tx_journal.specs.Noted.{commit_of, is_silent_by, is_starter, noted_back, notes_in, parted_by, told_with}
+use Rattle.tx_journal.specs.Moved.{Told, moved_at, numbers_above, numbers_parted, told_by, told_of}
+use Rattle.tx_journal.specs.Noted.{commit_of, is_silent_by, is_starter, noted_back, notes_in, parted_by}
 use Rattle.tx_journal.specs.declared.entry.Entry.{Entry}
 use Rattle.tx_laws.specs.OneMoment.{begins_it, is_silent, is_step_of, tells_moment}
 use Rattle.tx_model.specs.Answer.{Lawful}
@@ -40,6 +40,13 @@ silent_same : (S : State) (s : ℕ) (h : List Accepted) → is_silent_by s (note
 unfolding notes_in is_silent_by is_silent
 silent_same S s [] = refl
 silent_same S s (e ∷ h) = grind (arith, begins_same, own_same, tells_same, silent_same S s h)
+
+-- what is told of the step of a note, which commits the transaction of s, where so many steps follow it
+abbrev pub told_with : ℕ → Noted → List Noted → ℕ → Told
+told_with count last ns s = record {
+  numbers = reverse (numbers_above (suc (length ns)) count ++ suc (length ns) ∷ (parted_by s ns).own ++ (parted_by s ns).others);
+  one_moment = not last.tells && is_silent_by s ns;
+}
 
 -- what is told of a step
 told_in_role : (S : State) (later : List Accepted) (e : Accepted) (h : List Accepted) (r : Role) →

@@ -1,5 +1,5 @@
 -- Where no other transaction is live a step is the same to its own, and names what its sends go to.
-use Rattle.std.proofs.Common.{◌≡◌, ◌⊎◌, ℕ, Bool, true, false, List, [], ◌∷◌, Option, Some, None, if◌then◌else◌, refl, ap, ap₂, eq-eqb, arith}
+use Rattle.std.proofs.Common.{◌≡◌, ℕ, Bool, false, List, [], ◌∷◌, Option, Some, None, if◌then◌else◌, refl, ap, ap₂, eq-eqb, arith}
 use Rattle.tx_base.specs.declared.marks.Mark.{Mark}
 use Rattle.tx_base.specs.declared.names.Pid.{Pid}
 use Rattle.tx_base.specs.declared.steps.Reply.{Reply}
@@ -9,7 +9,7 @@ use Rattle.tx_journal.specs.Lives.{starter_by, starter_of}
 use Rattle.tx_journal.specs.Reach.{own_mark, own_table}
 use Rattle.tx_model.specs.Events.{Event, reply_of}
 use Rattle.tx_model.specs.History.{is_other_starter, targets}
-use Rattle.tx_model.specs.Membership.{Kind, Ordinary, Role, Table, event_in, is_of, kind_event, others_open}
+use Rattle.tx_model.specs.Membership.{Kind, Ordinary, Role, Table, event_in, kind_event, others_open}
 use Rattle.tx_model.specs.State.{Sending}
 use Rattle.tx_model.specs.View.{View, event_on, present, role_on}
 use Rattle.tx_model.specs.Words.{kind_of, kind_role, processes_of}

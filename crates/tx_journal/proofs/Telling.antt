@@ -1,12 +1,12 @@
 -- What is told of an entry, by the notes of the steps up to it.
 use Rattle.std.proofs.Common.{arith, ◌≡◌, ℕ, suc, ◌-◌, ◌≤◌, Bool, not, ◌&&◌, List, [], ◌∷◌, ◌++◌, Some, None, length, option_map, reverse, take, sym, ap, ◌∙◌}
 use Rattle.std.proofs.lemmas.List.{length-take-le}
-use Rattle.tx_journal.proofs.Noting.{moved_noted, moved_unnoted, notes_length}
+use Rattle.tx_journal.proofs.Noting.{moved_noted, moved_unnoted, notes_length, told_with}
 use Rattle.tx_journal.proofs.Parting.{back_more, back_none}
 use Rattle.tx_journal.proofs.Walked.{history_length}
 use Rattle.tx_journal.specs.Entries.{history_of}
 use Rattle.tx_journal.specs.Moved.{moved_at, numbers_above, told_in}
-use Rattle.tx_journal.specs.Noted.{commit_of, is_silent_by, noted_back, notes_in, parted_by, told_with}
+use Rattle.tx_journal.specs.Noted.{commit_of, is_silent_by, noted_back, notes_in, parted_by}
 use Rattle.tx_journal.specs.Sessions.{SessionState, start_of}
 use Rattle.tx_journal.specs.declared.entry.Entry.{Entry}
 use Rattle.tx_journal.specs.declared.moved.Moved.{Moved}

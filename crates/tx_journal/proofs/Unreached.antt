@@ -1,11 +1,10 @@
 -- What a step leaves of the state as it was.
-use Rattle.std.proofs.Common.{◌≡◌, ◌≢◌, ◌⊎◌, ◌==◌, ℕ, Bool, true, false, not, arith, List, [], ◌∷◌, ◌++◌, ◌&&◌, ◌||◌, Option, Some, None, if◌then◌else◌, is_some, refl, sym, ap, subst, ◌∙◌, eqb-true, inl, inr, true≢false}
+use Rattle.std.proofs.Common.{◌≡◌, ◌≢◌, ◌⊎◌, ◌==◌, ℕ, Bool, true, false, not, arith, List, [], ◌∷◌, ◌++◌, ◌&&◌, ◌||◌, Option, Some, None, if◌then◌else◌, refl, sym, ap, subst, ◌∙◌, eqb-true, inl, inr, true≢false}
 use Rattle.std.proofs.lemmas.Bool.{both_ways}
 use Rattle.tx_base.specs.declared.marks.Mark.{Mark}
 use Rattle.tx_base.specs.declared.names.Pid.{Pid}
 use Rattle.tx_base.specs.declared.names.Signo.{Signo}
 use Rattle.tx_base.specs.declared.steps.Call.{Call}
-use Rattle.tx_base.specs.declared.steps.Call.TheVariants as call
 use Rattle.tx_base.specs.declared.steps.Refusal.{Refusal}
 use Rattle.tx_base.specs.declared.steps.Refusal.TheVariants.{NoProcess, NotRunning}
 use Rattle.tx_base.specs.declared.steps.Reply.{Reply}
@@ -21,12 +20,12 @@ use Rattle.tx_laws.specs.Sound.{IsSound}
 use Rattle.tx_model.specs.Answer.{accepted_reply, answer, is_running, is_there, IsAccepted}
 use Rattle.tx_model.specs.Events.{Event, Note, actor, after, effect, objects, process_of}
 use Rattle.tx_model.specs.History.{event_footprint, is_left_in, left_out_before, nobody, targets}
-use Rattle.tx_model.specs.Membership.{Kind, Aborting, Role, Outside, Within, Continues, Parks, Forks, Begins, Commits, Aborts, Table, event_in, is_member_of, is_of, kind_event, mark_unless_of, marks_after, new_mark, defers_in, parked_mark}
+use Rattle.tx_model.specs.Membership.{Kind, Role, Outside, Within, Continues, Parks, Forks, Begins, Commits, Aborts, Table, event_in, is_member_of, is_of, kind_event, mark_unless_of, marks_after, new_mark, defers_in, parked_mark}
 use Rattle.tx_model.specs.ObjectFacts.{has_either, has_left, same_is}
 use Rattle.tx_model.specs.State.{Object, Proc, Held, Sending, State, has_object, same_object}
 use Rattle.tx_model.specs.StateLaws.{EqualAt}
 use Rattle.tx_model.specs.View.{View, event_on, next, present, role_on}
-use Rattle.tx_model.specs.Words.{kind_of, kind_role, processes_of, unless_refused}
+use Rattle.tx_model.specs.Words.{kind_role, processes_of, unless_refused}
 
 -- the process of an accepted step runs
 runs_if : (there runs : Bool) (rest : Option Refusal) (reply : Reply) → IsAccepted (unless_refused (if not there then Some NoProcess else (if not runs then Some NotRunning else rest)) reply) → runs ≡ true

@@ -1,7 +1,7 @@
 -- What the notes of a history tell of the entries that are to stand together.
-use Rattle.std.specs.Prelude.{ℕ, suc, Bool, true, false, not, ◌&&◌, ◌==◌, List, [], ◌∷◌, ◌++◌, Option, Some, None, length, map, reverse, if◌then◌else◌}
+use Rattle.std.specs.Prelude.{ℕ, suc, Bool, true, false, not, ◌&&◌, ◌==◌, List, [], ◌∷◌, Option, Some, None, length, map, reverse, if◌then◌else◌}
 use Rattle.tx_base.specs.declared.steps.Accepted.{Accepted}
-use Rattle.tx_journal.specs.Moved.{Numbers, Told, numbers_above, with_other_number, with_own_number}
+use Rattle.tx_journal.specs.Moved.{Numbers, numbers_above, with_other_number, with_own_number}
 use Rattle.tx_model.specs.State.{State}
 use Rattle.tx_journal.specs.Notes.{Noted, note_of, noted}
 use Rattle.tx_journal.specs.declared.notes.Note.{Note}
@@ -40,10 +40,3 @@ is_silent_by s [] = true
 is_silent_by s (n ∷ ns) =
     if begins_its s n then true
     else (if is_starter s n.starter then not n.tells && is_silent_by s ns else is_silent_by s ns)
-
--- what is told of the step of a note, which commits the transaction of s, where so many steps follow it
-abbrev pub told_with : ℕ → Noted → List Noted → ℕ → Told
-told_with count last ns s = record {
-  numbers = reverse (numbers_above (suc (length ns)) count ++ suc (length ns) ∷ (parted_by s ns).own ++ (parted_by s ns).others);
-  one_moment = not last.tells && is_silent_by s ns;
-}

@@ -66,10 +66,7 @@ pub(crate) fn part(alloc: Global, notes: &[Note], starter: Pid) -> Result<Parted
 fn is_by(note: &Note, starter: Pid) -> bool
     ensures { result ≡ is_starter starter.0 (noted note.now).starter }
 {
-    match note.starter {
-        Some(by) => by == starter,
-        None => false,
-    }
+    note.starter.is_some_and(|by| by == starter)
 }
 
 /// Whether a step is the first one of that transaction.

@@ -94,9 +94,5 @@ fn own_mark(marks: &Slots<Mark>, starter: Pid, pid: Pid) -> Option<Mark>
     ensures { result ≡ own_mark starter.0 (slot_at marks.now pid.0) }
 {
     let mark = marks.get(pid)?;
-    if mark.starter == starter {
-        Some(*mark)
-    } else {
-        None
-    }
+    (mark.starter == starter).then_some(*mark)
 }

@@ -75,10 +75,8 @@ fn comes_first_at(crossings: &Crossings, place: usize, starter: Pid, object: Obj
         slice_get crossings.now.inverses place ≡ Some inverse →
         result ≡ comes_first starter.0 (object_of object) inverse }
 {
-    match crossings.inverse(place) {
-        Some(inverse) => comes_first(inverse, starter, object),
-        None => false,
-    }
+    let inverse = crossings.inverse(place);
+    inverse.is_some_and(|inverse| comes_first(inverse, starter, object))
 }
 
 /// Whether it takes a step of the transaction of a starter back before which that had not reserved the

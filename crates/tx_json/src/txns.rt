@@ -1,11 +1,9 @@
 //! Appends a live transaction.
-ghost use Rattle.std.specs.Option.{option_copied};
 ghost use Rattle.std.specs.Prelude.{◌≡◌, ◌≤◌, ◌++◌, OnOk, codes, false, map, true};
 ghost use Rattle.tx_base.specs.Slots.{slot_at};
 ghost use Rattle.tx_json.specs.Each.{each_tokens};
 ghost use Rattle.tx_json.specs.Txns.{held_item, held_list, member_item, members_list, txn_item, txn_lists};
 ghost use Rattle.tx_kernel.specs.Plans.{sending_of};
-ghost use Rattle.tx_text.specs.Txns.{is_listed_in};
 
 use crate::line::LineWriter;
 use crate::lists::put_count_item;
@@ -14,6 +12,7 @@ use crate::members::{
 };
 use std::alloc::AllocError;
 use tx_base::{Mark, Pid, Sending, Slots};
+use tx_text::is_listed;
 
 /// Appends a live transaction, with what it holds.
 pub fn put_txn(
@@ -85,16 +84,6 @@ fn put_member(
         return put_count_item(writer, u64::from(pid.0));
     }
     Ok(())
-}
-
-/// Whether the mark is one of that transaction, and the member's part has ended or not.
-fn is_listed(mark: Option<&Mark>, starter: Pid, ended: bool) -> bool
-    ensures { result ≡ is_listed_in (option_copied mark.entry) starter.0 ended }
-{
-    match mark {
-        Some(mark) => mark.starter.0 == starter.0 && mark.ended == ended,
-        None => false,
-    }
 }
 
 /// Appends the sends that a transaction holds, in order.

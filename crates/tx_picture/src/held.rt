@@ -94,10 +94,7 @@ fn put_sent(text: &mut String, place: Place, bottom: u64, aborted: bool) -> Resu
 fn end_at(strips: &[Span], process: Pid, row: u16) -> Option<End>
     ensures { result ≡ end_at strips.now process.0 row }
 {
-    match strip_at(strips, process, row) {
-        Some(strip) => strip.end,
-        None => None,
-    }
+    strip_at(strips, process, row)?.end
 }
 
 /// The stretch of a process that has a row.
@@ -118,8 +115,5 @@ fn covers(strip: &Span, process: Pid, row: u16) -> bool
 fn reaches(end: Option<End>, row: u16) -> bool
     ensures { result ≡ reaches end row }
 {
-    match end {
-        None => true,
-        Some(end) => row <= end.row,
-    }
+    end.is_none_or(|end| row <= end.row)
 }

@@ -27,4 +27,4 @@ pub use links::Links;
 pub use pieces::{put_fd_of, put_ids_of, put_page_of, put_pending_of, put_queue_of};
 pub use processes::{put_procs, put_slot_lines};
 pub use replies::{error_name, put_named_reply, put_reply};
-pub use txns::put_txn_lines;
+pub use txns::{is_listed, put_txn_lines};

@@ -32,14 +32,11 @@ pub fn put_txn_lines(
         (slot_at marks.now pid.0)) }
 {
     match marks.get(pid) {
-        Some(mark) => {
-            if mark.starter.0 == pid.0 {
-                put_txn(text, marks, links, width, pid, mark.defers)?;
-                return put_helds(text, sendings);
-            }
-            Ok(())
+        Some(mark) if mark.starter.0 == pid.0 => {
+            put_txn(text, marks, links, width, pid, mark.defers)?;
+            put_helds(text, sendings)
         }
-        None => Ok(()),
+        _ => Ok(()),
     }
 }
 
@@ -102,13 +99,10 @@ fn put_members(
 }
 
 /// Whether the mark is one of that transaction, and the member's part has ended or not.
-fn is_listed(mark: Option<&Mark>, starter: Pid, ended: bool) -> bool
+pub fn is_listed(mark: Option<&Mark>, starter: Pid, ended: bool) -> bool
     ensures { result ≡ is_listed_in (option_copied mark.entry) starter.0 ended }
 {
-    match mark {
-        Some(mark) => mark.starter.0 == starter.0 && mark.ended == ended,
-        None => false,
-    }
+    mark.is_some_and(|mark| mark.starter.0 == starter.0 && mark.ended == ended)
 }
 
 /// Appends the line of each send that is held, in order.

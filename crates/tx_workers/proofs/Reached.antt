@@ -33,7 +33,11 @@ use Rattle.tx_model.specs.State.{boot_state, Process, Sending, State, Write, Set
 use Rattle.tx_model.specs.StateLaws.{put_cases}
 use Rattle.tx_model.specs.View.{present, view}
 use Rattle.tx_model.specs.Words.{call_effect, delivery_effect, event_if, kind_of}
-use Rattle.tx_workers.specs.Tops.{EndsAt, HasTop, IsWithin}
+use Rattle.tx_workers.specs.Tops.{HasTop, IsWithin}
+
+-- no process has a number over it
+abbrev EndsAt : ℕ → State → Type 0
+EndsAt top S = (n : ℕ) → top < n → S.procs n ≡ None
 
 module _ (top : ℕ) where
   abbrev IsLow : Write → Type 0

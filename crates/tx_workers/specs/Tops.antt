@@ -1,16 +1,11 @@
 -- Up to which number processes are there. Own rules.
-use Rattle.std.specs.Prelude.{◌≡◌, ℕ, ◌<◌, ◌≤◌, false, All, None}
+use Rattle.std.specs.Prelude.{◌≡◌, ℕ, ◌<◌, ◌≤◌, false, All}
 use Rattle.tx_base.specs.declared.steps.Call.TheVariants.{Fork}
 use Rattle.tx_base.specs.declared.steps.Step.{Step}
 use Rattle.tx_base.specs.declared.steps.Step.TheVariants.{Call as Calls}
 use Rattle.tx_journal.specs.Sessions.{SessionState}
 use Rattle.tx_model.specs.Answer.{is_running}
-use Rattle.tx_model.specs.State.{State}
 use Rattle.tx_model.specs.View.{View, present}
-
--- no process has a number over it
-abbrev pub EndsAt : ℕ → State → Type 0
-EndsAt top S = (n : ℕ) → top < n → S.procs n ≡ None
 
 -- no process of a number over it runs, of those that there are
 abbrev pub NoneRunsOver : ℕ → View → Type 0

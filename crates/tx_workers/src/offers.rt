@@ -50,10 +50,7 @@ fn is_offered(proc: &Proc, mark: Option<&Mark>, signo: Signo) -> bool
 fn is_deferred(mark: Option<&Mark>, signo: Signo) -> bool
     ensures { (t : Table) → result ≡ is_deferred (inside_by t (option_copied mark.entry)) signo.0 }
 {
-    match mark {
-        Some(mark) => mark.defers && signo != SIGKILL,
-        None => false,
-    }
+    mark.is_some_and(|mark| mark.defers && signo != SIGKILL)
 }
 
 /// Whether the signal is caught, and there is no room for what is saved then.

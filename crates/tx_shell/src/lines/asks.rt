@@ -145,10 +145,8 @@ fn read_steps(numbers: &[u8]) -> Option<Ask<'static>>
     if let Some(first) = read_position(numbers) {
         return Some(Ask::StepsFrom(first));
     }
-    match two_numbers(numbers) {
-        Some((first, last)) => Some(Ask::StepsBetween(first, last)),
-        None => None,
-    }
+    let (first, last) = two_numbers(numbers)?;
+    Some(Ask::StepsBetween(first, last))
 }
 
 /// The starter whose number a word spells.

@@ -130,8 +130,5 @@ fn plain_words<'a>(room: &'a mut Room, line: &'a [u8]) -> Option<Words<'a>>
     ensures { option_map bytes_of result
         ≡ plain_line (Within Schedule) (without_return line.now) }
 {
-    match plain_line(room, line) {
-        Some(plain) => Some(Words::Lent(plain)),
-        None => None,
-    }
+    Some(Words::Lent(plain_line(room, line)?))
 }

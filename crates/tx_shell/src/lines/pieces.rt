@@ -25,10 +25,7 @@ pub fn read_piece(words: &[u8]) -> Option<Piece>
     if let Some(number) = byte_behind(b"desc ", words) {
         return Some(Piece::Desc(DescNo(number)));
     }
-    match byte_behind(b"pipe ", words) {
-        Some(number) => Some(Piece::Pipe(PipeNo(number))),
-        None => None,
-    }
+    Some(Piece::Pipe(PipeNo(byte_behind(b"pipe ", words)?)))
 }
 
 /// The process that some words name, or what it has.

@@ -168,10 +168,7 @@ fn names_end(parts: &Parts, side: Side, number: u16, name: Option<DescNo>) -> bo
     ensures { (held : ℕ → List Sending) →
         result ≡ names_end (state_of held parts.now) number (end_for side) (number_in name) }
 {
-    match name {
-        Some(name) => is_end(parts.descs.get(name), side, number),
-        None => false,
-    }
+    name.is_some_and(|name| is_end(parts.descs.get(name), side, number))
 }
 
 /// Whether a description is a side of a pipe.

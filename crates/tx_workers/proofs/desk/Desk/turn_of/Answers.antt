@@ -1,4 +1,4 @@
-use Rattle.std.proofs.Common.{rules, ◌≡◌, ◌+◌, ◌-◌, ◌≤◌, Some, length, arith}
+use Rattle.std.proofs.Common.{◌≡◌, ◌+◌, ◌-◌, ◌≤◌, Some, length, arith}
 use Rattle.tx_workers.proofs.Turned.{added_by, desk_turned, few_entries, front_within}
 use Rattle.tx_workers.proofs.desk.Desk.turn_of.Goals as goal
 
