@@ -25,12 +25,12 @@ is_number() {
 help_words() {
     case $#:${1-} in
         0:) tell txos ;;
-        1:replay | 1:debug | 1:json | 1:picture | 1:shell | 1:run | 1:check | 1:explain | 1:plain | 1:version | 1:help) tell "$1" ;;
+        1:replay | 1:debug | 1:json | 1:picture | 1:expect | 1:shell | 1:run | 1:check | 1:explain | 1:plain | 1:version | 1:help) tell "$1" ;;
         *) refuse txos "'$*' is no command that there is help for" ;;
     esac
 }
 
-# The words after `replay`, `debug`, `picture`, `plain` or `version`, or behind those of
+# The words after `replay`, `debug`, `picture`, `expect`, `plain` or `version`, or behind those of
 # `shell`: there are none.
 lone_words() {
     local command=$1
@@ -120,7 +120,7 @@ answer_words() {
     case $1 in
         -h | --help) tell txos ;;
         help) help_words "${@:2}" ;;
-        replay | debug | picture | plain | version) lone_words "$@" ;;
+        replay | debug | picture | expect | plain | version) lone_words "$@" ;;
         shell) shell_words "${@:2}" ;;
         check) check_words "${@:2}" ;;
         explain) explain_words "${@:2}" ;;

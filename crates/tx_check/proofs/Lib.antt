@@ -5,7 +5,6 @@ pub mod FaultKinds
 pub mod FoundFaults
 pub mod FrontWord
 pub mod Growing
-pub mod Heard
 pub mod InLine
 pub mod Labelled
 pub mod LabelsFound

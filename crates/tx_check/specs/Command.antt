@@ -1,45 +1,43 @@
 -- How a text is read from one end, and what is told of it written to another.
 use Rattle.std.specs.Prelude.{◌≡◌, ◌==◌, ℕ, ◌+◌, ◌<◌, ◌≤◌, Bool, List, Option, length, take, ◌⊎◌, Result, Ok, Err, IfSome}
 use Rattle.std.specs.Io.KnownBytes.{Appends, Keeps}
-use Rattle.tx_check.specs.Readers.{IsSaidFor}
-use Rattle.tx_check.specs.declared.readers.Reader.{Reader as TheReader}
 use Rattle.tx_lines.specs.Ends.{Counts}
 use Rattle.tx_lines.specs.Whole.{IsCalm}
 use Rattle.tx_lines.specs.declared.faults.Fault.{Fault}
 use Rattle.tx_lines.specs.declared.faults.Fault.TheVariants.{TooLong, Reader, Writer, NoMemory}
 
--- a text of no more bytes than one may have was left to read, and that is told of it for a command
-pub record Hears (reader : TheReader) (left : Option (List ℕ)) (told : List ℕ) : Type 0 where
+-- a text of no more bytes than one may have was left to read, and that is said of it
+pub record Hears (Says : List ℕ → List ℕ → Type 0) (left : Option (List ℕ)) (told : List ℕ) : Type 0 where
   pub text : List ℕ
   pub whole : IfSome left (λ bytes. bytes ≡ text)
   pub short : length text ≤ 1048576
-  pub said : IsSaidFor reader text told
+  pub said : Says text told
 
 -- all that is told is written, and it is nothing exactly where that is answered
-pub record WritesTold (reader : TheReader) (left written : Option (List ℕ)) (is_read : Bool) (written' : Option (List ℕ)) : Type 0 where
+pub record WritesTold (Says : List ℕ → List ℕ → Type 0) (left written : Option (List ℕ)) (is_read : Bool) (written' : Option (List ℕ)) : Type 0 where
   pub told : List ℕ
-  pub hears : Hears reader left told
+  pub hears : Hears Says left told
   pub answer : is_read ≡ (length told == 0)
   pub bytes : Appends written written' told
 
 -- so many bytes of what is told are written
-pub record WritesFront (reader : TheReader) (left written written' : Option (List ℕ)) : Type 0 where
+pub record WritesFront (Says : List ℕ → List ℕ → Type 0) (left written written' : Option (List ℕ)) : Type 0 where
   pub told : List ℕ
   pub count : ℕ
-  pub hears : Hears reader left told
+  pub hears : Hears Says left told
   pub inside : count ≤ length told
   pub bytes : Appends written written' (take count told)
 
 -- a text is read, and what is told of it written, or a front of that, or nothing, as the fault says
-abbrev pub Checks : TheReader → Option (List ℕ) → Counts → Option (List ℕ) → Counts → Result Bool Fault → Counts → Option (List ℕ) → Counts → Type 0
-Checks reader left reads written writes (Ok is_read) reads' written' writes' =
-    WritesTold reader left written is_read written' × IsCalm reads reads' × IsCalm writes writes'
-Checks reader left reads written writes (Err (TooLong line)) reads' written' writes' =
+abbrev pub Checks : (List ℕ → List ℕ → Type 0) → Option (List ℕ) → Counts → Option (List ℕ) → Counts → Result Bool Fault → Counts → Option (List ℕ) → Counts → Type 0
+Checks Says left reads written writes (Ok is_read) reads' written' writes' =
+    WritesTold Says left written is_read written' × IsCalm reads reads' × IsCalm writes writes'
+Checks Says left reads written writes (Err (TooLong line)) reads' written' writes' =
     (line ≡ 0) × IfSome left (λ bytes. 1048576 < length bytes) × Keeps written written'
-Checks reader left reads written writes (Err Reader) reads' written' writes' =
+Checks Says left reads written writes (Err Reader) reads' written' writes' =
     ((reads.failed < reads'.failed) ⊎ (reads'.again ≡ reads.again + 1001)) × Keeps written written'
-Checks reader left reads written writes (Err Writer) reads' written' writes' =
-    WritesFront reader left written written'
+Checks Says left reads written writes (Err Writer) reads' written' writes' =
+    WritesFront Says left written written'
     × ((writes.failed < writes'.failed) ⊎ ((writes.empty < writes'.empty) ⊎ (writes'.again ≡ writes.again + 1001)))
-Checks reader left reads written writes (Err NoMemory) reads' written' writes' = Keeps written written'
-Checks reader left reads written writes (Err _) reads' written' writes' = ⊥
+Checks Says left reads written writes (Err NoMemory) reads' written' writes' = Keeps written written'
+Checks Says left reads written writes (Err _) reads' written' writes' = ⊥

@@ -1,5 +1,6 @@
 pub mod Behind
 pub mod Command
+pub mod Heard
 pub mod Kinds
 pub mod Labels
 pub mod Near

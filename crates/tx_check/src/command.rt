@@ -1,5 +1,6 @@
 //! Reads a text from one end, and writes to another what is told of it.
 ghost use Rattle.tx_check.specs.Command.{Checks};
+ghost use Rattle.tx_check.specs.Readers.{IsSaidFor};
 ghost use Rattle.tx_check.specs.declared.readers.Reader.TheVariants as readers;
 ghost use Rattle.tx_lines.specs.Ends.{IsFresh};
 
@@ -13,8 +14,9 @@ use tx_lines::{Fault, Sink, Source, read_whole, write_whole};
 pub fn check<S: Source, W: Sink>(alloc: Global, source: &mut S, sink: &mut W) -> Result<bool, Fault>
     requires source { IsFresh (S.counts source.old) }
     requires sink { IsFresh (W.counts sink.old) }
-    ensures { Checks readers.Any (S.left source.old) (S.counts source.old) (W.written sink.old)
-        (W.counts sink.old) result (S.counts source.new) (W.written sink.new) (W.counts sink.new) }
+    ensures { Checks (IsSaidFor readers.Any) (S.left source.old) (S.counts source.old)
+        (W.written sink.old) (W.counts sink.old) result (S.counts source.new)
+        (W.written sink.new) (W.counts sink.new) }
 {
     check_for(alloc, Reader::Any, source, sink)
 }
@@ -32,8 +34,9 @@ pub fn check_for<S: Source, W: Sink>(
 ) -> Result<bool, Fault>
     requires source { IsFresh (S.counts source.old) }
     requires sink { IsFresh (W.counts sink.old) }
-    ensures { Checks reader (S.left source.old) (S.counts source.old) (W.written sink.old)
-        (W.counts sink.old) result (S.counts source.new) (W.written sink.new) (W.counts sink.new) }
+    ensures { Checks (IsSaidFor reader) (S.left source.old) (S.counts source.old)
+        (W.written sink.old) (W.counts sink.old) result (S.counts source.new)
+        (W.written sink.new) (W.counts sink.new) }
 {
     let text = read_whole(alloc, source)?;
     let told = check_text_for(alloc, reader, text.as_slice())?;

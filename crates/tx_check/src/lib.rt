@@ -56,4 +56,5 @@ pub use forms::CALLS;
 pub use kinds::{Kind, kind_of};
 pub use laws::a_text_is_read_or_has_one_fault;
 pub use readers::Reader;
+pub use sentences::put_shown;
 pub use session::session_line;

@@ -247,8 +247,11 @@ fn put_word(text: &mut String, word: &[u8]) -> Result<(), AllocError>
     put_shown(text, word)
 }
 
-/// Puts bytes, with `?` for each that is no character of ASCII.
-fn put_shown(text: &mut String, bytes: &[u8]) -> Result<(), AllocError>
+/// Appends bytes, with `?` for each that is no character of ASCII.
+///
+/// The only error is that a growth of memory was refused: the text may then have some of them behind
+/// what it had.
+pub fn put_shown(text: &mut String, bytes: &[u8]) -> Result<(), AllocError>
     ensures { OnOk result (string_bytes text.new ≡ string_bytes text.old ++ map shown bytes.now) }
 {
     for at in 0..bytes.len() {

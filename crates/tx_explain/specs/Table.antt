@@ -41,6 +41,7 @@ command_rows =
     ∷ row "debug" [] "walks back and forward over the steps of a schedule, as commands say."
     ∷ row "json" [] "writes what a text is answered, as lines of JSON."
     ∷ row "picture" [] "draws what the steps of a schedule did, as a picture in SVG."
+    ∷ row "expect" [] "says which replies are not those that the comments of a text expect."
     ∷ row "shell" [] "answers steps and commands, each line before it reads the next."
     ∷ row "run" [] "runs a program by workers, which are threads that share one kernel."
     ∷ row "check" [] "says of each line at fault in a text what is wrong with it."

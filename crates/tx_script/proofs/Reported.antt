@@ -13,45 +13,50 @@ use Rattle.tx_model.specs.Answer.{answer, IsAccepted, Lawful}
 use Rattle.tx_model.specs.Schedules.{history_with, answers_of, history_of}
 use Rattle.tx_model.specs.State.{State}
 use Rattle.tx_model.specs.View.{View, view}
-use Rattle.tx_script.specs.Report.{line_text, lines_text}
 
--- so far: the steps that are left lead from the history so far to that of the whole schedule, and their lines from the
--- text so far to the whole text
-pub record RepliesSoFar (start : State) (earlier : List Accepted) (steps : List Step) (before : List ℕ) (machine : Content) (text : List ℕ) (number : ℕ) (left : List Step) : Type 0 where
+-- so far: the steps that are left lead from the history so far to that of the whole schedule, and what is told of their replies, the first by that
+-- number, from what is told so far to all
+pub record RepliesSoFar {A : Type 0} (told : ℕ → List Reply → List A) (start : State) (earlier : List Accepted) (steps : List Step) (before : List A) (machine : Content) (now : List A) (number : ℕ) (left : List Step) : Type 0 where
   pub history : List Accepted
   pub after : IsAfter start history machine
   pub leads : history_of start earlier steps ≡ history_of start history left
-  pub lines : before ++ lines_text 1 (answers_of start earlier steps) ≡ text ++ lines_text number (answers_of start history left)
+  pub lines : before ++ told 1 (answers_of start earlier steps) ≡ now ++ told number (answers_of start history left)
 
--- one step more
-pub one_reply_more : (start : State) (earlier : List Accepted) (steps : List Step) (before : List ℕ) (old new : Content) (text more : List ℕ) (number : ℕ) (step : Step) (left : List Step) (reply : Reply)
-    → RepliesSoFar start earlier steps before old text number (step ∷ left) → reply ≡ answer (view_of old) step
+-- one step more, of whose reply that is told
+pub one_reply_more : {A : Type 0} (told : ℕ → List Reply → List A) (start : State) (earlier : List Accepted) (steps : List Step) (before : List A) (old new : Content) (now more one : List A) (number : ℕ) (step : Step) (left : List Step) (reply : Reply)
+    → RepliesSoFar told start earlier steps before old now number (step ∷ left) → reply ≡ answer (view_of old) step
     → ((history : List Accepted) → IsAfter start history old → IsAfter start (history_with history step reply) new)
-    → more ≡ text ++ line_text number reply → RepliesSoFar start earlier steps before new more (number + 1) left
+    → ((others : List Reply) → told number (reply ∷ others) ≡ one ++ told (number + 1) others)
+    → more ≡ now ++ one → RepliesSoFar told start earlier steps before new more (number + 1) left
 unfolding history_of answers_of
-one_reply_more start earlier steps before old new text more number step left reply so replied made put =
+one_reply_more {A} told start earlier steps before old new now more one number step left reply so replied made first put =
     let h : List Accepted = so.history in
     let same : answer (view start h) step ≡ reply = sym (replied ∙ ap (λ (V : View). answer V step) so.after.view) in
-    let rest : Reply → List ℕ = λ r. lines_text (number + 1) (answers_of start (history_with h step r) left) in
+    let others : List Reply = answers_of start (history_with h step reply) left in
     record {
       history = history_with h step reply;
       after = made h so.after;
       leads = so.leads ∙ ap (λ (r : Reply). history_of start (history_with h step r) left) same;
       lines = so.lines
-          ∙ ap (λ (r : Reply). text ++ (line_text number r ++ rest r)) same
-          ∙ sym (append_assoc text (line_text number reply) (rest reply))
-          ∙ ap (λ (t : List ℕ). t ++ rest reply) (sym put);
+          ∙ ap (λ (r : Reply). now ++ told number (r ∷ answers_of start (history_with h step r) left)) same
+          ∙ ap (λ (xs : List A). now ++ xs) (first others)
+          ∙ sym (append_assoc now one (told (number + 1) others))
+          ∙ ap (λ (xs : List A). xs ++ told (number + 1) others) (sym put);
     }
 
 -- no step is left
-pub replies_whole : (start : State) (earlier : List Accepted) (steps : List Step) (before : List ℕ) (machine : Content) (text : List ℕ) (number : ℕ) (left : List Step)
-    → RepliesSoFar start earlier steps before machine text number left → left ≡ []
-    → (text ≡ before ++ lines_text 1 (answers_of start earlier steps)) × IsAfter start (history_of start earlier steps) machine
+pub replies_whole : {A : Type 0} (told : ℕ → List Reply → List A) (start : State) (earlier : List Accepted) (steps : List Step) (before : List A) (machine : Content) (now : List A) (number : ℕ) (left : List Step)
+    → RepliesSoFar told start earlier steps before machine now number left → left ≡ [] → told number [] ≡ []
+    → (now ≡ before ++ told 1 (answers_of start earlier steps)) × IsAfter start (history_of start earlier steps) machine
 unfolding history_of answers_of
-replies_whole start earlier steps before machine text number left so none = (
-  sym (so.lines ∙ ap (λ (xs : List Step). text ++ lines_text number (answers_of start so.history xs)) none ∙ append-nil text),
+replies_whole {A} told start earlier steps before machine now number left so none nothing = (
+  sym (so.lines ∙ ap (λ (xs : List Step). now ++ told number (answers_of start so.history xs)) none ∙ ap (λ (xs : List A). now ++ xs) nothing ∙ append-nil now),
   subst (λ (h : List Accepted). IsAfter start h machine) (sym (so.leads ∙ ap (history_of start so.history) none)) so.after,
 )
+
+-- replies as they are, without their numbers
+abbrev pub as_they_are : ℕ → List Reply → List Reply
+as_they_are number replies = replies
 
 -- the answer, where it is not want of memory
 pub replied_answer : (V : View) (step : Step) (reply : Reply) → (reply ≡ No NoMemory) ⊎ (answer V step ≡ reply) → (reply ≡ No NoMemory → ⊥) → reply ≡ answer V step

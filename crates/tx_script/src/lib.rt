@@ -15,6 +15,7 @@
 //! tx_plain.
 #![tactic(auto)]
 
+mod answered;
 mod as_json;
 mod commands;
 mod debugs;
@@ -26,6 +27,7 @@ mod reports;
 mod responses;
 mod walks;
 
+pub use answered::{Answered, make_all, make_step};
 pub use as_json::{json_text, response_line, run_lines, write_json};
 pub use debugs::{debug, debug_text};
 pub use forms::Form;

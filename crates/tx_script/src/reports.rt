@@ -1,15 +1,14 @@
 //! Runs a schedule, and prints what it answers and the state that it leaves.
 ghost use Rattle.std.specs.Prelude.{◌≡◌, ◌++◌, [], List, IfErr, IfOk, OnOk, string_bytes};
 ghost use Rattle.tx_base.specs.declared.steps.Accepted.{Accepted};
-ghost use Rattle.tx_live.specs.Content.{view_of};
 ghost use Rattle.tx_core.specs.Runs.{IsAfter};
-ghost use Rattle.tx_model.specs.Answer.{answer};
-ghost use Rattle.tx_model.specs.Schedules.{history_with, answers_of, history_of};
+ghost use Rattle.tx_model.specs.Schedules.{answers_of, history_of};
 ghost use Rattle.tx_model.specs.State.{State};
 ghost use Rattle.tx_lines.specs.Lines.{FitsHeader};
 ghost use Rattle.tx_script.specs.Report.{line_text, lines_text, report_text};
 ghost use Rattle.tx_lines.specs.declared.faults.Fault.TheVariants.{NoMemory};
 
+use crate::answered::make_step;
 use crate::machines::boot;
 use std::alloc::{AllocError, Global};
 use tx_base::{ABORTED_BY_CALL, Reply, Step};
@@ -55,27 +54,6 @@ fn put_replies(
     for i in 0..steps.len() {
         make_step(alloc, machine, &steps[i], &mut reply, &mut inverse)?;
         put_reply_line(text, i as u64 + 1, &reply)?;
-    }
-    Ok(())
-}
-
-/// Makes a step, which is never taken back. Puts its reply and its inverse where they are to stand.
-fn make_step(
-    alloc: Global,
-    machine: &mut Machine,
-    step: &Step,
-    reply: &mut Reply,
-    inverse: &mut Inverse,
-) -> Result<(), Fault>
-    ensures answer { OnOk result (reply.new ≡ answer (view_of machine.old) step.now) }
-    ensures after { OnOk result
-        ((start : State) (earlier : List Accepted) → IsAfter start earlier machine.old →
-        IsAfter start (history_with earlier step.now reply.new) machine.new) }
-    ensures fault { IfErr result (λ fault. fault ≡ NoMemory) }
-{
-    let _accepted = machine.step_into(alloc, step, reply, inverse);
-    if reply.wants_memory() {
-        return Err(Fault::NoMemory);
     }
     Ok(())
 }

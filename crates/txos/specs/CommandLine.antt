@@ -12,7 +12,7 @@ use Rattle.tx_check.specs.declared.readers.Reader.TheVariants as readers
 use Rattle.tx_script.specs.declared.forms.Form.{Form}
 use Rattle.tx_script.specs.declared.forms.Form.TheVariants as forms
 use Rattle.txos.specs.declared.words.Asked.{Asked}
-use Rattle.txos.specs.declared.words.Asked.TheVariants.{Check, Debug, Explain, HalfRun, Json, JsonRun, NoReader, Picture, Plain, Replay, Run, Shell, Version}
+use Rattle.txos.specs.declared.words.Asked.TheVariants.{Check, Debug, Expect, Explain, HalfRun, Json, JsonRun, NoReader, Picture, Plain, Replay, Run, Shell, Version}
 
 -- an option whose value is a number from 1 to that one, and one that is required
 abbrev pub number_option : Text → ℕ → Rule
@@ -57,7 +57,7 @@ explain_line = record (new_shape (codes "explain")) { rules = new_rule (codes "w
 
 -- the commands, in the order in which they are added: those that answer a schedule
 abbrev pub schedule_commands : List Shape
-schedule_commands = text_line (codes "replay") ∷ text_line (codes "debug") ∷ json_line ∷ text_line (codes "picture") ∷ []
+schedule_commands = text_line (codes "replay") ∷ text_line (codes "debug") ∷ json_line ∷ text_line (codes "picture") ∷ text_line (codes "expect") ∷ []
 
 -- those that make steps as they come
 abbrev pub run_commands : List Shape
@@ -99,6 +99,7 @@ name_of Json = codes "json"
 name_of (JsonRun crew) = codes "json"
 name_of HalfRun = codes "json"
 name_of Picture = codes "picture"
+name_of Expect = codes "expect"
 name_of (Shell form) = codes "shell"
 name_of (Run crew) = codes "run"
 name_of (Check reader) = codes "check"

@@ -21,7 +21,8 @@ use std::process::ExitCode;
 use std::sync::Wait;
 use std::thread::Threads;
 use std::{env, io};
-use tx_check::check_for;
+use tx_check::{Reader, check_for};
+use tx_expect::{check_too, expect};
 use tx_explain::{explain, listing, nearest};
 use tx_lines::{Fault, OverRead, OverWrite, Sink, Source, write_whole};
 use tx_picture::picture;
@@ -103,6 +104,8 @@ where
         Asked::Shell(form) => status_of(rt, converse(rt, alloc, form, prompts)),
         Asked::Run(crew) => { status_of(rt, answer_run(rt, alloc, source, sink, crew, Form::Text)) }
         Asked::Picture => status_of(rt, picture(alloc, source, sink)),
+        Asked::Expect => status_of_check(rt, expect(alloc, source, sink)),
+        Asked::Check(Reader::Any) => status_of_check(rt, check_too(alloc, source, sink)),
         Asked::Check(reader) => status_of_check(rt, check_for(alloc, reader, source, sink)),
         Asked::NoReader(word) => no_reader(rt, word),
         Asked::Plain => status_of(rt, write_plain(alloc, source, sink)),
@@ -204,10 +207,11 @@ fn status_of<E: Display + Drop>(rt: &impl Eprint, answer: Result<(), E>) -> Exit
     }
 }
 
-/// The status of a check: that of a fault too where the text can't be read. A fault is printed.
+/// The status of a check, and of expectations: that of a fault too where all is not well. A fault is
+/// printed.
 fn status_of_check(rt: &impl Eprint, answer: Result<bool, Fault>) -> ExitCode
-    ensures read { IfOk answer (λ is_read. is_read ≡ true → exit_status result ≡ 0) }
-    ensures unread { IfOk answer (λ is_read. is_read ≡ false → exit_status result ≡ FAULTY) }
+    ensures well { IfOk answer (λ is_well. is_well ≡ true → exit_status result ≡ 0) }
+    ensures ill { IfOk answer (λ is_well. is_well ≡ false → exit_status result ≡ FAULTY) }
     ensures fault { OnErr answer (exit_status result ≡ FAULTY) }
 {
     match answer {

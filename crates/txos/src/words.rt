@@ -42,6 +42,8 @@ pub enum Asked<'a> {
     HalfRun,
     /// To read a schedule, make its steps, and write a picture of them.
     Picture,
+    /// To read a schedule, make its steps, and write which replies are not as its text expects.
+    Expect,
     /// To read steps and commands line by line, and answer each before the next, in that form.
     Shell(Form),
     /// To read a program, run it by workers, and write what they did.
@@ -106,6 +108,7 @@ fn asked_of<'a>(matches: &ArgMatches<'a>) -> Result<Asked<'a>, AllocError>
         Some("debug") => Ok(Asked::Debug),
         Some("json") => json_of(matches),
         Some("picture") => Ok(Asked::Picture),
+        Some("expect") => Ok(Asked::Expect),
         Some("shell") => Ok(Asked::Shell(form_of(matches))),
         Some("run") => Ok(Asked::Run(crew_of(matches, "run")?)),
         Some("check") => Ok(check_of(matches)),
@@ -257,7 +260,8 @@ fn add_schedules<'a>(alloc: Global, line: Command<'a>) -> Result<Command<'a>, Al
         .subcommand(text_command(alloc, "replay", REPLAY)?)?
         .subcommand(text_command(alloc, "debug", DEBUG)?)?
         .subcommand(json_command(alloc)?)?
-        .subcommand(text_command(alloc, "picture", PICTURE)?)?;
+        .subcommand(text_command(alloc, "picture", PICTURE)?)?
+        .subcommand(text_command(alloc, "expect", EXPECT)?)?;
     Ok(command)
 }
 
@@ -326,6 +330,12 @@ const PICTURE: Told = Told {
     about: "Reads a schedule from standard input, and writes a picture of it in SVG",
     usage: "txos picture < FILE",
     example: "Example: txos picture < examples/first.txos > first.svg",
+};
+
+const EXPECT: Told = Told {
+    about: "Reads a schedule, and says which replies are not those that its comments expect",
+    usage: "txos expect < FILE",
+    example: "Example: txos expect < examples/expected.txos",
 };
 
 const SHELL: Told = Told {

@@ -14,7 +14,7 @@ pub fn topics() -> &'static [Topic]
     &TOPICS
 }
 
-const TOPICS: [Topic; 10] = [
+const TOPICS: [Topic; 11] = [
     Topic {
         word: "replay",
         also: &[],
@@ -66,6 +66,22 @@ picture: draws what the steps of a schedule did, as a picture in SVG.
 ",
     },
     Topic {
+        word: "expect",
+        also: &[],
+        text: "\
+expect: says which replies are not those that the comments of a text expect.
+  form     txos expect < TEXT
+  TEXT     a schedule. # = REPLY after a step is the reply that is expected, as
+           in a report; ok EBADF is ok -9. After the last step # state, and a
+           line # = LINE for each line of the state, expect that state
+  writes   line L: STEP: expected REPLY, got REPLY, where the reply is another;
+           and how many are as expected, how many not, and how many expect
+           nothing
+  status   0 where some are as expected and none is not, else 1
+  example  txos expect < examples/expected.txos
+",
+    },
+    Topic {
         word: "shell",
         also: &[],
         text: "\
@@ -104,7 +120,8 @@ check: says of each line at fault in a text what is wrong with it.
   COMMAND  the command that is to read it: replay, debug, run, picture or json;
            with none it is that of the text's kind
   writes   line L, column C: and a sentence, for each line at fault; L and C
-           count from 1, C in bytes. Nothing where the command reads the text
+           count from 1, C in bytes. Nothing where the command reads the text;
+           but with none, one for each # = of a schedule that is no reply
   status   0 where nothing is wrong, else 1
   example  txos check < examples/first.txos
 ",

@@ -2,6 +2,7 @@ use Rattle.std.proofs.Common.{◌≡◌, ◌+◌, suc, ℕ, List, ◌∷◌, dro
 use Rattle.std.proofs.Math.ListN.{drop_of_length-le}
 use Rattle.tx_base.specs.declared.steps.Step.{Step}
 use Rattle.tx_script.proofs.Reported.{RepliesSoFar, one_reply_more, replies_whole}
+use Rattle.tx_script.specs.Report.{line_text, lines_text}
 use Rattle.tx_script.proofs.reports.put_replies.Goals as goal
 
 pub loop-i-init : goal.loop-i-init
@@ -18,16 +19,16 @@ loop-i-preserved c start earlier after =
     drop-cons steps i c.index-steps-i.result c.loop-i-test.true
     ∙ ap (λ (x : Step). x ∷ drop (suc i) steps) (sym c.index-steps-i.is)
     ∙ ap (λ (n : ℕ). step ∷ drop n steps) (sym (add-one i)) in
-    one_reply_more start earlier steps before c.loop-i.machine c.make_step.new.machine text (string_bytes c.put_reply_line.new.text) (i + 1) step (drop (i + 1) steps) c.make_step.new.reply
-    (subst (λ (xs : List Step). RepliesSoFar start earlier steps before c.loop-i.machine text (i + 1) xs) cut (c.loop-i.invariant start earlier after))
-    c.in_ok-make_step.ensures.answer (c.in_ok-make_step.ensures.after start) c.in_ok-put_reply_line.ensures
+    one_reply_more lines_text start earlier steps before c.loop-i.machine c.make_step.new.machine text (string_bytes c.put_reply_line.new.text) (line_text (i + 1) c.make_step.new.reply) (i + 1) step (drop (i + 1) steps) c.make_step.new.reply
+    (subst (λ (xs : List Step). RepliesSoFar lines_text start earlier steps before c.loop-i.machine text (i + 1) xs) cut (c.loop-i.invariant start earlier after))
+    c.in_ok-make_step.ensures.answer (c.in_ok-make_step.ensures.after start) (λ others. refl) c.in_ok-put_reply_line.ensures
 
 pub returns-clause-text : goal.returns-clause-text
 returns-clause-text c start earlier after =
-    (replies_whole start earlier c.args.steps.now (string_bytes c.args.text.now) c.loop-i.machine (string_bytes c.loop-i.text) (c.loop-i.i + 1) (drop c.loop-i.i c.args.steps.now)
-    (c.loop-i.invariant start earlier after) (drop_of_length-le c.args.steps.now c.loop-i-test.false)).0
+    (replies_whole lines_text start earlier c.args.steps.now (string_bytes c.args.text.now) c.loop-i.machine (string_bytes c.loop-i.text) (c.loop-i.i + 1) (drop c.loop-i.i c.args.steps.now)
+    (c.loop-i.invariant start earlier after) (drop_of_length-le c.args.steps.now c.loop-i-test.false) refl).0
 
 pub returns-clause-after : goal.returns-clause-after
 returns-clause-after c start earlier after =
-    (replies_whole start earlier c.args.steps.now (string_bytes c.args.text.now) c.loop-i.machine (string_bytes c.loop-i.text) (c.loop-i.i + 1) (drop c.loop-i.i c.args.steps.now)
-    (c.loop-i.invariant start earlier after) (drop_of_length-le c.args.steps.now c.loop-i-test.false)).1
+    (replies_whole lines_text start earlier c.args.steps.now (string_bytes c.args.text.now) c.loop-i.machine (string_bytes c.loop-i.text) (c.loop-i.i + 1) (drop c.loop-i.i c.args.steps.now)
+    (c.loop-i.invariant start earlier after) (drop_of_length-le c.args.steps.now c.loop-i-test.false) refl).1

@@ -17,18 +17,21 @@ unreachable-requires c =
                 | inr four ↦ elim four [
                   | inl picture ↦ absurd (w.in_default.not-picture (search (rules, picture)))
                   | inr five ↦ elim five [
-                    | inl shell ↦ absurd (w.in_default.not-shell (search (rules, shell)))
+                    | inl expect ↦ absurd (w.in_default.not-expect (search (rules, expect)))
                     | inr six ↦ elim six [
-                      | inl run ↦ absurd (w.in_default.not-run (search (rules, run)))
+                      | inl shell ↦ absurd (w.in_default.not-shell (search (rules, shell)))
                       | inr seven ↦ elim seven [
-                        | inl check ↦ absurd (w.in_default.not-check (search (rules, check)))
+                        | inl run ↦ absurd (w.in_default.not-run (search (rules, run)))
                         | inr eight ↦ elim eight [
-                          | inl plain ↦ absurd (w.in_default.not-plain (search (rules, plain)))
+                          | inl check ↦ absurd (w.in_default.not-check (search (rules, check)))
                           | inr nine ↦ elim nine [
-                            | inl explain ↦ absurd (w.in_default.not-explain (search (rules, explain)))
+                            | inl plain ↦ absurd (w.in_default.not-plain (search (rules, plain)))
                             | inr ten ↦ elim ten [
-                              | inl version ↦ absurd (w.in_default.not-version (search (rules, version)))
-                              | inr none ↦ none
+                              | inl explain ↦ absurd (w.in_default.not-explain (search (rules, explain)))
+                              | inr eleven ↦ elim eleven [
+                                | inl version ↦ absurd (w.in_default.not-version (search (rules, version)))
+                                | inr none ↦ none
+                              ]
                             ]
                           ]
                         ]

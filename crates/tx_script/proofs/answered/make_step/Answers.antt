@@ -1,7 +1,7 @@
 use Rattle.std.proofs.Common.{sym, true≢false}
 use Rattle.tx_live.specs.Content.{view_of}
 use Rattle.tx_script.proofs.Reported.{after_reply, replied_answer}
-use Rattle.tx_script.proofs.reports.make_step.Goals as goal
+use Rattle.tx_script.proofs.answered.make_step.Goals as goal
 
 pub returns-clause-answer : goal.returns-clause-answer
 returns-clause-answer c =

@@ -1,0 +1,2 @@
+pub mod CommentParts
+pub mod ReadAndJudged

@@ -1,0 +1,170 @@
+//! Tells what is wrong with the expectations of a text.
+ghost use Rattle.std.specs.Prelude.{IfOk, string_bytes};
+ghost use Rattle.tx_check.specs.Command.{Checks};
+ghost use Rattle.tx_expect.specs.Checks.{SaysToo};
+ghost use Rattle.tx_lines.specs.Ends.{IsFresh};
+
+use crate::comments::{begins_state, expected_in, has_word, told_in};
+use crate::spellings::is_reply;
+use std::alloc::{AllocError, Global};
+use std::fmt::Write;
+use tx_base::NoMemory;
+use tx_check::{Kind, Reader, check_text_for, kind_of, put_shown};
+use tx_lines::{Fault, Sink, Source, put, read_whole, split_at, write_whole};
+use tx_plain::{MeantLines, split_line};
+
+/// What is said after a reply that is none.
+const REPLIES: &str = "; a reply is as in a report: ok 0, ok -9, ok EBADF, ended, committed, \
+committed 4:10:3, aborted 201, out 6869, out -, no N8 2 or no N9\n";
+
+/// Reads a text to its end, and writes what is told of it by the command of its kind, as tx_check has it. Where
+/// that is nothing, and the text is a schedule, what is wrong with its expectations is told. Answers whether
+/// nothing is.
+///
+/// `TooLong` at line 0 where the text has more than 1,048,576 bytes, and `Reader` and `NoMemory`: nothing
+/// is written then. `Writer`: a front of what is told is.
+pub fn check_too<S: Source, W: Sink>(
+    alloc: Global,
+    source: &mut S,
+    sink: &mut W,
+) -> Result<bool, Fault>
+    requires source { IsFresh (S.counts source.old) }
+    requires sink { IsFresh (W.counts sink.old) }
+    ensures { Checks SaysToo (S.left source.old) (S.counts source.old) (W.written sink.old)
+        (W.counts sink.old) result (S.counts source.new) (W.written sink.new) (W.counts sink.new) }
+{
+    let text = read_whole(alloc, source)?;
+    let told = told_too(alloc, text.as_slice())?;
+    let bytes = told.as_bytes();
+    write_whole(sink, bytes)?;
+    Ok(bytes.is_empty())
+}
+
+/// What is told of a text, and of its expectations where that is nothing.
+fn told_too(alloc: Global, text: &[u8]) -> Result<String, NoMemory>
+    ensures { IfOk result (λ told. SaysToo text.now (string_bytes told)) }
+{
+    let told = check_text_for(alloc, Reader::Any, text)?;
+    if told.is_empty() && kind_of(MeantLines::of(text)) == Kind::Schedule {
+        return Ok(expectation_troubles(alloc, text)?);
+    }
+    Ok(told)
+}
+
+/// What is wrong with the expectations of a text that is read as a schedule: a line for each.
+fn expectation_troubles(alloc: Global, text: &[u8]) -> Result<String, AllocError> {
+    let last = last_with_word(text);
+    let mut told = String::new(alloc);
+    let mut place = Place::Start;
+    let mut left = text;
+    for number in 1..u64::MAX {
+        let Some((line, rest)) = split_line(left) else {
+            break;
+        };
+        place = place.next(line, number > last);
+        if let Some(trouble) = trouble_at(place, line) {
+            put_trouble(&mut told, number, line, trouble)?;
+        }
+        left = rest;
+    }
+    Ok(told)
+}
+
+/// The number of the last line that has a word, from 1. 0 where none has one.
+fn last_with_word(text: &[u8]) -> u64 {
+    let mut last = 0;
+    let mut left = text;
+    for number in 1..u64::MAX {
+        let Some((line, rest)) = split_line(left) else {
+            break;
+        };
+        if has_word(line) {
+            last = number;
+        }
+        left = rest;
+    }
+    last
+}
+
+/// Where a line is in a schedule.
+#[derive(Clone, Copy)]
+enum Place {
+    /// Before the header.
+    Start,
+    Header,
+    /// The line of a step.
+    Step,
+    /// A line without a word, after the header.
+    Between,
+    /// The line `# state`, or one after it.
+    State,
+}
+
+impl Place {
+    /// Where the next line is. The state may begin in it where the last step is before it.
+    fn next(self, line: &[u8], is_after_last: bool) -> Place {
+        match self {
+            Place::State => Place::State,
+            _ if is_after_last && begins_state(line) => Place::State,
+            Place::Start if has_word(line) => Place::Header,
+            Place::Start => Place::Start,
+            _ if has_word(line) => Place::Step,
+            _ => Place::Between,
+        }
+    }
+}
+
+/// What is wrong with the expectation of a line.
+#[derive(Clone, Copy)]
+enum Trouble<'a> {
+    /// No reply is spelled like what is expected.
+    NoReply(&'a [u8]),
+    /// There is no step in the line.
+    NoStep,
+    /// The state is expected before the last step.
+    TooSoon,
+}
+
+/// What is wrong with the expectation of a line there, if anything.
+fn trouble_at(place: Place, line: &[u8]) -> Option<Trouble<'_>> {
+    match (place, expected_in(line)) {
+        (Place::State, _) => None,
+        (Place::Step, Some(expected)) if is_reply(told_in(expected)) => None,
+        (Place::Step, Some(expected)) => Some(Trouble::NoReply(expected)),
+        (Place::Step, None) => None,
+        (_, Some(_expected)) => Some(Trouble::NoStep),
+        (_, None) => begins_state(line).then_some(Trouble::TooSoon),
+    }
+}
+
+/// Appends a line that tells what is wrong with the expectation of the line of that number.
+fn put_trouble(
+    told: &mut String,
+    number: u64,
+    line: &[u8],
+    trouble: Trouble<'_>,
+) -> Result<(), AllocError> {
+    let column = column_of(line, trouble);
+    write!(told, "line {number}, column {column}: ")?;
+    match trouble {
+        Trouble::NoReply(expected) => {
+            put(told, "no such reply: ")?;
+            put_shown(told, told_in(expected))?;
+            put(told, REPLIES)
+        }
+        Trouble::NoStep => put(told, "a reply is expected after its step, in its line\n"),
+        Trouble::TooSoon => put(told, "# state must come after the last step\n"),
+    }
+}
+
+/// The column of an expectation that is wrong: of what is expected, or of its comment.
+fn column_of(line: &[u8], trouble: Trouble<'_>) -> usize {
+    let behind = match trouble {
+        Trouble::NoReply(expected) => expected.trim_ascii_start().len(),
+        Trouble::NoStep | Trouble::TooSoon => match split_at(b'#', line) {
+            Some((_front, comment)) => comment.len().saturating_add(1),
+            None => 0,
+        },
+    };
+    line.len().saturating_sub(behind).saturating_add(1)
+}

@@ -1,0 +1,144 @@
+//! The comment of a line, and what it says that the line's step is to be answered.
+ghost use Rattle.std.specs.Prelude.{◌≡◌, ◌≤◌, length, option_map};
+ghost use Rattle.tx_expect.specs.Comments.{after_equals, before_mark, begins_state, comment_from, comment_in, expected_in, has_words, says, told_in};
+ghost use Rattle.tx_plain.specs.Words as words;
+ghost use Rattle.tx_plain.specs.Words.{words_in};
+ghost use Rattle.tx_plain.specs.declared.reading.Reading.TheVariants.{InString, InWord};
+
+use tx_lines::split_at;
+use tx_plain::split_word;
+
+/// Whether a line has a word.
+#[inline(always)] // most lines are seen to have one by their first byte
+pub fn has_word(line: &[u8]) -> bool
+    ensures { result ≡ has_words (words_in line.now) }
+{
+    match line {
+        [first, ..] if !is_blank(*first) && *first != b'#' => true,
+        _ => split_word(line).is_some(),
+    }
+}
+
+/// What a line expects: what its comment has after `=`. Nothing where it has no such comment.
+pub fn expected_in(line: &[u8]) -> Option<&[u8]>
+    ensures { option_map (λ expected. expected.now) result ≡ expected_in line.now }
+{
+    after_equals(comment_in(line)?)
+}
+
+/// Whether what a line expects is a text: right after one space, or by what it tells.
+pub fn says(expected: &[u8], text: &[u8]) -> bool
+    ensures { result ≡ says expected.now text.now }
+{
+    match expected {
+        [b' ', rest @ ..] if rest == text => true,
+        _ => told_in(expected) == text,
+    }
+}
+
+/// Whether the comment of a line tells `state`: the lines of a state are expected after it.
+pub fn begins_state(line: &[u8]) -> bool
+    ensures { result ≡ begins_state line.now }
+{
+    match comment_in(line) {
+        Some(comment) => says(comment, b"state"),
+        None => false,
+    }
+}
+
+/// A comment up to the next `#`, without the white space around it.
+pub fn told_in(comment: &[u8]) -> &[u8]
+    ensures { result.now ≡ told_in comment.now }
+{
+    before_mark(comment).trim_ascii()
+}
+
+/// A comment up to the next `#`.
+fn before_mark(comment: &[u8]) -> &[u8]
+    ensures { result.now ≡ before_mark comment.now }
+{
+    match split_at(b'#', comment) {
+        Some((front, _rest)) => front,
+        None => comment,
+    }
+}
+
+/// What follows the `#` that begins the comment of a line. Nothing where it has none.
+fn comment_in(line: &[u8]) -> Option<&[u8]>
+    ensures { option_map (λ comment. comment.now) result ≡ comment_in line.now }
+{
+    let mut left = line;
+    while let Some((byte, rest)) = left.split_first() {
+        if *byte == b'#' {
+            return Some(rest);
+        }
+        if *byte == b'"' {
+            return comment_behind_strings(line);
+        }
+        left = rest;
+    }
+    None
+}
+
+/// The same where the line may have strings.
+fn comment_behind_strings(line: &[u8]) -> Option<&[u8]>
+    ensures { option_map (λ comment. comment.now) result ≡ comment_in line.now }
+{
+    let mut is_in_word = false;
+    let mut left = line;
+    while let Some((byte, rest)) = left.split_first() {
+        if *byte == b'#' {
+            return Some(rest);
+        }
+        if *byte == b'"' && !is_in_word {
+            is_in_word = true;
+            left = behind_string(rest);
+        } else {
+            is_in_word = !is_blank(*byte);
+            left = rest;
+        }
+    }
+    None
+}
+
+/// What follows a string, of which that is left of a line.
+fn behind_string(line: &[u8]) -> &[u8]
+    ensures same { comment_from InString line.now ≡ comment_from InWord result.now }
+    ensures shorter { length result.now ≤ length line.now }
+{
+    let mut is_escaped = false;
+    let mut left = line;
+    while let Some((byte, rest)) = left.split_first() {
+        if *byte == b'"' && !is_escaped {
+            return rest;
+        }
+        is_escaped = *byte == b'\\' && !is_escaped;
+        left = rest;
+    }
+    left
+}
+
+/// What follows the `=` with which a comment begins, maybe after blanks. Nothing where it begins
+/// otherwise.
+fn after_equals(comment: &[u8]) -> Option<&[u8]>
+    ensures { option_map (λ expected. expected.now) result ≡ after_equals comment.now }
+{
+    let mut left = comment;
+    while let Some((byte, rest)) = left.split_first() {
+        if *byte == b'=' {
+            return Some(rest);
+        }
+        if !is_blank(*byte) {
+            return None;
+        }
+        left = rest;
+    }
+    None
+}
+
+/// Whether a byte parts words.
+fn is_blank(byte: u8) -> bool
+    ensures { result ≡ words.is_blank byte }
+{
+    byte == b' ' || byte == b'\t'
+}
