@@ -30,8 +30,8 @@ help_words() {
     esac
 }
 
-# The words after `replay`, `debug`, `picture`, `expect`, `plain` or `version`, or behind those of
-# `shell`: there are none.
+# The words after `replay`, `debug`, `expect`, `plain` or `version`, or after those of `shell`:
+# there are none.
 lone_words() {
     local command=$1
     shift
@@ -83,16 +83,17 @@ explain_words() {
     [ $# -le 1 ] || [ "$#:$2" = 2:-- ] || refuse explain "'$2' is not understood after explain"
 }
 
-# The words after `run` or `json`: the two numbers of a run, each once. Behind `json` both may be
-# missing.
+# The words after a command that takes two numbers, each once at most, by options that are given
+# with the greatest number of each. Sets `first` and `second`.
 numbers_words() {
-    local command=$1 workers='' turns='' name value
-    shift
+    local command=$1 one=$2 most_one=$3 two=$4 most_two=$5 name value
+    shift 5
+    first='' second=''
     while [ $# -gt 0 ]; do
         case $1 in
             -h | --help) tell "$command" ;;
-            --workers=* | --turns=*) name=${1%%=*} value=${1#*=} ;;
-            --workers | --turns)
+            "$one"=* | "$two"=*) name=${1%%=*} value=${1#*=} ;;
+            "$one" | "$two")
                 name=$1 value=${2-}
                 [[ $value == [!-]* ]] || refuse "$command" "$name wants a number"
                 shift
@@ -102,15 +103,28 @@ numbers_words() {
         esac
         shift
         case $name in
-            --workers) [ -z "$workers" ] && is_number "$value" 16 && workers=$value ;;
-            --turns) [ -z "$turns" ] && is_number "$value" 10000 && turns=$value ;;
-        esac || refuse "$command" "$name is a number from 1 on, given once: 16 workers and 10000 turns at most"
+            "$one") [ -z "$first" ] && is_number "$value" "$most_one" && first=$value ;;
+            "$two") [ -z "$second" ] && is_number "$value" "$most_two" && second=$value ;;
+        esac || refuse "$command" "$name is a number from 1 on, given once: at most $most_one for $one, $most_two for $two"
     done
-    case $command:${workers:+w}${turns:+t} in
+}
+
+# The words after `run` or `json`: the two numbers of a run. Behind `json` both may be missing.
+crew_words() {
+    local first second
+    numbers_words "$1" --workers 16 --turns 10000 "${@:2}"
+    case $1:${first:+w}${second:+t} in
         run:wt | json:wt | json:) ;;
         run:*) refuse run "run wants --workers and --turns" ;;
         json:*) refuse json "json takes --workers and --turns together, or neither" ;;
     esac
+}
+
+# The words after `picture`: the first and the last step that is drawn, of which both may be missing.
+excerpt_words() {
+    local first second
+    numbers_words picture --from 4096 --to 4096 "$@"
+    [ "${first:-1}" -le "${second:-4096}" ] || refuse picture "the step of --from must not be behind that of --to"
 }
 
 # Answers the words and ends the script, or returns where they ask for a run.
@@ -120,12 +134,13 @@ answer_words() {
     case $1 in
         -h | --help) tell txos ;;
         help) help_words "${@:2}" ;;
-        replay | debug | picture | expect | plain | version) lone_words "$@" ;;
+        replay | debug | expect | plain | version) lone_words "$@" ;;
         shell) shell_words "${@:2}" ;;
         check) check_words "${@:2}" ;;
         explain) explain_words "${@:2}" ;;
         -V | --version) tell own_version ;;
-        run | json) numbers_words "$@" ;;
+        run | json) crew_words "$@" ;;
+        picture) excerpt_words "${@:2}" ;;
         *) refuse txos "'$1' is no command" ;;
     esac
 }

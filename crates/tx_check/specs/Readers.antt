@@ -1,7 +1,6 @@
 -- The commands that read texts, and what is told of a text for one of them.
-use Rattle.std.specs.Prelude.{◌≡◌, ◌≢◌, ℕ, List, [], ◌∷◌, ◌++◌, codes, ◌⊎◌}
+use Rattle.std.specs.Prelude.{◌≡◌, ℕ, List, [], ◌∷◌, ◌++◌, codes}
 use Rattle.tx_check.specs.Kinds.{kind_of}
-use Rattle.tx_check.specs.Numbered.{after_lines}
 use Rattle.tx_check.specs.Reads.{line_of, IsAtFault, IsRead}
 use Rattle.tx_check.specs.Told.{IsToldBy}
 use Rattle.tx_check.specs.Wrong.{IsWrongToo}
@@ -10,7 +9,6 @@ use Rattle.tx_check.specs.declared.kinds.Kind.TheVariants.{Schedule, Walk, Progr
 use Rattle.tx_check.specs.declared.readers.Reader.{Reader}
 use Rattle.tx_check.specs.declared.readers.Reader.TheVariants.{Any, Replay, Debug, Run, Picture, Json}
 use Rattle.tx_lines.specs.declared.faults.Fault.{Fault}
-use Rattle.tx_lines.specs.declared.faults.Fault.TheVariants.{TooLong}
 use Rattle.tx_plain.specs.Meant.{meant_of, IsOwnFault}
 
 -- the kind of text that a command reads, by the kind that a text is meant to be: JSON is made of no program
@@ -27,25 +25,6 @@ kind_for Json kind = Schedule
 abbrev pub kind_read : Reader → List ℕ → Kind
 kind_read reader text = kind_for reader (kind_of text)
 
--- the text has no more lines than the command takes: a picture has 200 steps
-abbrev pub IsShortFor : Reader → List ℕ → Type 0
-IsShortFor Picture text = after_lines 201 text ≡ []
-IsShortFor _ text = Unit {0}
-
--- the command reads the text
-pub record IsReadBy (reader : Reader) (text : List ℕ) : Type 0 where
-  pub read : IsRead (kind_read reader text) text
-  pub short : IsShortFor reader text
-
--- it has more, and the first of them is too long
-abbrev pub IsLongFor : Reader → List ℕ → Fault → Type 0
-IsLongFor Picture text fault = IsRead Schedule text × (after_lines 201 text ≢ []) × (fault ≡ TooLong 202)
-IsLongFor _ text fault = ⊥
-
--- the command finds the text at fault
-abbrev pub IsFaultBy : Reader → List ℕ → Fault → Type 0
-IsFaultBy reader text fault = IsAtFault (kind_read reader text) text fault ⊎ IsLongFor reader text fault
-
 -- the text is at fault for a kind at a line where it is at fault for its own kind too, and so is the line of that number, behind that one
 pub record IsWrongFor (kind : Kind) (text : List ℕ) (number : ℕ) : Type 0 where
   pub fault : Fault
@@ -53,15 +32,14 @@ pub record IsWrongFor (kind : Kind) (text : List ℕ) (number : ℕ) : Type 0 wh
   pub own : IsWrongToo text number
   pub same : line_of own.fault ≡ line_of fault
 
--- what is told of a text for a command: nothing exactly where it reads the text; else first the line of the fault at which it finds the text, and each line at fault behind that
--- one where the text's own kind has its fault there too: where it has not, no other line is promised
-abbrev pub IsToldFor : Reader → List ℕ → List ℕ → Type 0
-IsToldFor reader text told =
-    IsToldBy (IsReadBy reader (meant_of text)) (IsOwnFault (IsFaultBy reader) text) (IsWrongFor (kind_read reader (meant_of text)) (meant_of text)) text told
-
--- the same, where only the kind of the text is asked for
+-- what is told of a text that is to be of a kind: nothing exactly where it is read as that; else first the line of the fault at which it is found, and each line at fault behind
+-- that one where the text's own kind has its fault there too: where it has not, no other line is promised
 abbrev pub IsToldAs : Kind → List ℕ → List ℕ → Type 0
 IsToldAs kind text told = IsToldBy (IsRead kind (meant_of text)) (IsOwnFault (IsAtFault kind) text) (IsWrongFor kind (meant_of text)) text told
+
+-- the same of a text for a command, which reads that kind
+abbrev pub IsToldFor : Reader → List ℕ → List ℕ → Type 0
+IsToldFor reader text told = IsToldAs (kind_read reader (meant_of text)) text told
 
 -- as what a text was read
 abbrev pub heading : Kind → List ℕ

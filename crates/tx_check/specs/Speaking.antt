@@ -8,7 +8,7 @@ use Rattle.tx_check.specs.Wrong.{IsTwice}
 use Rattle.tx_check.specs.declared.places.Part.TheVariants as parts
 use Rattle.tx_check.specs.declared.places.Place.{Place}
 use Rattle.tx_check.specs.declared.trouble.LineTrouble.{LineTrouble}
-use Rattle.tx_check.specs.declared.trouble.LineTrouble.TheVariants.{TooLong, TooManySteps, TooManyCommands, TooManyInstructions, TooManyLabels, NoEnd, CarriageReturn, ByteOrderMark, Comment, OtherComment, Empty, Space, NoHeader, NoCall, DeferIsLater, MovedIsLater, CommandTooSoon, DebugAgain, LabelInSchedule, StepInProgram, DebugInProgram, StepAmongCommands, NoSessionHeader, HeaderLate, ProgramInSession, DebugInSession, NoStep, NeitherStepNorCommand, ProgramHere, ScheduleHere, CommandsHere, NoCommands, TooManyToDraw, NoneOfTheGrammar}
+use Rattle.tx_check.specs.declared.trouble.LineTrouble.TheVariants.{TooLong, TooManySteps, TooManyCommands, TooManyInstructions, TooManyLabels, NoEnd, CarriageReturn, ByteOrderMark, Comment, OtherComment, Empty, Space, NoHeader, NoCall, DeferIsLater, MovedIsLater, CommandTooSoon, DebugAgain, LabelInSchedule, StepInProgram, DebugInProgram, StepAmongCommands, NoSessionHeader, HeaderLate, ProgramInSession, DebugInSession, NoStep, NeitherStepNorCommand, ProgramHere, ScheduleHere, CommandsHere, NoCommands, NoneOfTheGrammar}
 use Rattle.tx_check.specs.declared.trouble.Names.{Names}
 use Rattle.tx_check.specs.declared.trouble.Names.TheVariants as names
 use Rattle.tx_check.specs.declared.trouble.What.{What}
@@ -24,7 +24,6 @@ reader_sentence ProgramHere = codes "this is a program, for txos run; a schedule
 reader_sentence ScheduleHere = codes "this is a schedule, for txos replay; a program is wanted"
 reader_sentence CommandsHere = codes "commands begin here, which only txos debug and json read"
 reader_sentence NoCommands = codes "a line debug is wanted, and commands after it"
-reader_sentence TooManyToDraw = codes "a picture has at most 200 steps"
 reader_sentence trouble = codes "this line is none of the grammar's"
 
 abbrev pub session_sentence : LineTrouble → List ℕ
@@ -230,7 +229,6 @@ kind_of_line TooManySteps = OfLength
 kind_of_line TooManyCommands = OfLength
 kind_of_line TooManyInstructions = OfLength
 kind_of_line TooManyLabels = OfLength
-kind_of_line TooManyToDraw = OfLength
 kind_of_line trouble = OfGrammar
 
 abbrev pub kind_of_names : Names → FaultKind

@@ -1,16 +1,13 @@
 //! Tells of a text what is wrong with it for one of the commands.
-ghost use Rattle.std.specs.Prelude.{◌≡◌, ◌≢◌, ◌≤◌, [], Some, IfNone, IfOk, IfSome, IsTrue, IsFalse, ℕ, List, string_bytes};
+ghost use Rattle.std.specs.Prelude.{◌≡◌, ◌≢◌, ◌≤◌, Some, IfNone, IfOk, IfSome, ℕ, List, string_bytes};
 ghost use Rattle.tx_check.specs.Kinds as kinds_spec;
-ghost use Rattle.tx_check.specs.Numbered.{after_lines};
-ghost use Rattle.tx_check.specs.Readers.{IsLongFor, IsSaidFor, IsShortFor, IsToldAs, IsToldFor};
+ghost use Rattle.tx_check.specs.Readers.{IsSaidFor, IsToldAs, IsToldFor};
 ghost use Rattle.tx_lines.specs.declared.faults.Fault.{Fault};
-ghost use Rattle.tx_lines.specs.declared.faults.Fault.TheVariants as faults;
 ghost use Rattle.tx_check.specs.Readers as spec;
 ghost use Rattle.tx_check.specs.Reads as reads;
-ghost use Rattle.tx_check.specs.Reads.{IsAtFault, IsRead};
+ghost use Rattle.tx_check.specs.Reads.{IsAtFault};
 ghost use Rattle.tx_check.specs.Told.{TellsFrom};
 ghost use Rattle.tx_plain.specs.Meant.{meant_of, own_line};
-ghost use Rattle.tx_plain.specs.MeantLines.{left_of};
 
 use crate::checks::{line_of, tell_from, tell_text};
 use crate::faults::first_fault;
@@ -26,9 +23,6 @@ use std::alloc::{AllocError, Global};
 use tx_base::NoMemory;
 use tx_lines::{Fault, put};
 use tx_plain::{Meant, MeantLines};
-
-/// How many lines the text of a picture's schedule may have.
-const PICTURE_LINES: u64 = 201;
 
 /// What is told of a text of any version for that command: nothing exactly where the command reads the
 /// text. Else first of the line at which it finds the text at fault, as `check_text` tells it, and of
@@ -68,32 +62,10 @@ fn told_for(alloc: Global, reader: Reader, text: &[u8]) -> Result<String, NoMemo
     if let Some(kind) = right_kind(alloc, text)
         && reader.kind(kind) == kind
     {
-        return told_of_kind(alloc, reader, text);
+        return Ok(String::new(alloc));
     }
-    tell_for(alloc, reader, text)
-}
-
-/// The same, where the command of the text's own kind is not known to read it.
-fn tell_for(alloc: Global, reader: Reader, text: &[u8]) -> Result<String, NoMemory>
-    ensures { IfOk result (λ told. IsToldFor reader text.now (string_bytes told)) }
-{
     let meant = kind_of(MeantLines::of(text));
-    let told = told_as(alloc, reader.kind(meant), meant, text)?;
-    if told.is_empty() {
-        return told_of_kind(alloc, reader, text);
-    }
-    Ok(told)
-}
-
-/// What is told of a text for that command, which reads texts of the kind that the text is of.
-fn told_of_kind(alloc: Global, reader: Reader, text: &[u8]) -> Result<String, NoMemory>
-    requires { IsRead (spec.kind_read reader (meant_of text.now)) (meant_of text.now) }
-    ensures { IfOk result (λ told. IsToldFor reader text.now (string_bytes told)) }
-{
-    if is_long_for(reader, text) {
-        return tell_long(alloc, reader, text);
-    }
-    Ok(String::new(alloc))
+    told_as(alloc, reader.kind(meant), meant, text)
 }
 
 /// What is told of a text that is to be of a kind, and is meant to be of that other one.
@@ -155,37 +127,6 @@ fn same_line(found: Option<Fault>, other: Fault) -> Option<Fault>
 {
     let fault = found?;
     (line_of(fault) == line_of(other)).then_some(fault)
-}
-
-/// Whether a text that is of the kind which the command reads has more lines than it takes.
-fn is_long_for(reader: Reader, text: &[u8]) -> bool
-    ensures long { IsTrue result → IsRead (spec.kind_read reader (meant_of text.now)) (meant_of text.now)
-        → IsLongFor reader (meant_of text.now) (faults.TooLong 202) }
-    ensures short { IsFalse result → IsShortFor reader (meant_of text.now) }
-{
-    matches!(reader, Reader::Picture) && !is_none_behind(MeantLines::of(text), PICTURE_LINES)
-}
-
-/// What is told of a text with more lines than the command takes.
-fn tell_long(alloc: Global, reader: Reader, text: &[u8]) -> Result<String, NoMemory>
-    requires { IsLongFor reader (meant_of text.now) (faults.TooLong 202) }
-    ensures { IfOk result (λ told. IsToldFor reader text.now (string_bytes told)) }
-{
-    let number = Meant::by(alloc, text)?.own_line(PICTURE_LINES + 1);
-    tell_alone(alloc, text, number, LineTrouble::TooManyToDraw, 0)
-}
-
-/// Whether no line is behind so many.
-fn is_none_behind(lines: MeantLines<'_>, count: u64) -> bool
-    ensures none { IsTrue result → after_lines count (left_of lines.entry) ≡ [] }
-    ensures some { IsFalse result → after_lines count (left_of lines.entry) ≢ [] }
-{
-    let mut left = lines;
-    for _before in 0..count {
-        let (_line, behind) = left.cut();
-        left = behind;
-    }
-    left.split().is_none()
 }
 
 /// Tells of a line alone what is wrong with the text there, at the word in that place of it.

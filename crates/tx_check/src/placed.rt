@@ -53,7 +53,6 @@ fn is_of_length(line: &[u8], what: &What<'_>) -> bool
         What::Line(LineTrouble::TooManyCommands) => true,
         What::Line(LineTrouble::TooManyInstructions) => true,
         What::Line(LineTrouble::TooManyLabels) => true,
-        What::Line(LineTrouble::TooManyToDraw) => true,
         _ => false,
     }
 }

@@ -16,7 +16,7 @@ pub enum Reader {
     Debug,
     /// `run`, which reads programs.
     Run,
-    /// `picture`, which reads schedules of at most 200 steps.
+    /// `picture`, which reads schedules.
     Picture,
     /// `json`, which reads schedules, with commands or without.
     Json,

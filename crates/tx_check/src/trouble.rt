@@ -81,7 +81,6 @@ pub enum LineTrouble {
     ScheduleHere,
     CommandsHere,
     NoCommands,
-    TooManyToDraw,
     NoneOfTheGrammar,
 }
 
@@ -255,7 +254,7 @@ impl LineTrouble {
         match self {
             LineTrouble::TooLong | LineTrouble::TooManySteps => false,
             LineTrouble::TooManyCommands | LineTrouble::TooManyInstructions => false,
-            LineTrouble::TooManyLabels | LineTrouble::TooManyToDraw => false,
+            LineTrouble::TooManyLabels => false,
             _ => true,
         }
     }
@@ -340,7 +339,6 @@ impl LineTrouble {
             LineTrouble::ScheduleHere => "this is a schedule, for txos replay; a program is wanted",
             LineTrouble::CommandsHere => "commands begin here, which only txos debug and json read",
             LineTrouble::NoCommands => "a line debug is wanted, and commands after it",
-            LineTrouble::TooManyToDraw => "a picture has at most 200 steps",
             _ => "this line is none of the grammar's",
         }
     }

@@ -1,11 +1,15 @@
 pub mod Boxes
 pub mod DrawnSteps
+pub mod ExcerptBoxes
 pub mod Followed
+pub mod HeadLines
 pub mod Made
 pub mod Mapped
 pub mod Numbered
 pub mod OneMore
 pub mod OpenBoxes
 pub mod PictureFormed
+pub mod Settled
+pub mod Tallies
 pub mod Told
 pub mod WellFormed

@@ -1,5 +1,5 @@
 -- One item more of a list that a loop goes over.
-use Rattle.std.proofs.Common.{◌≡◌, ℕ, zero, suc, ◌+◌, ◌<◌, ◌≤◌, List, [], ◌∷◌, ◌++◌, take, get_or, length, ap, ◌∙◌, sym, arith, add-one, append_assoc}
+use Rattle.std.proofs.Common.{◌≡◌, Result, Ok, Err, OnOk, ℕ, zero, suc, ◌+◌, ◌<◌, ◌≤◌, List, [], ◌∷◌, ◌++◌, take, get_or, length, ap, ◌∙◌, sym, arith, add-one, append_assoc}
 use Rattle.std.proofs.lemmas.List.{append-nil, take_all}
 use Rattle.std.proofs.lemmas.List.Sums.{fold_more}
 use Rattle.std.specs.List.{flat_map, fold}
@@ -29,3 +29,12 @@ folded_more f start items i d now after inside so_far more = more ∙ ap (λ (x 
 -- all are folded in
 pub folded_whole : {A B : Type 0} (f : B → A → B) (start : B) (items : List A) (i : ℕ) (now : B) → length items ≤ i → now ≡ fold f start (take i items) → now ≡ fold f start items
 folded_whole f start items i now done so_far = so_far ∙ ap (fold f start) (take_all i items done)
+
+-- what holds where the last text was appended
+pub appended : {A E : Type 0} (result : Result A E) (P Q : Type 0) → (P → Q) → OnOk result P → OnOk result Q
+appended (Ok value) P Q more is = more is
+appended (Err error) P Q more is = tt
+
+pub appended_thrice : (old a b d first second third : List ℕ) → first ≡ old ++ a → second ≡ first ++ b → third ≡ second ++ d → third ≡ old ++ (a ++ (b ++ d))
+appended_thrice old a b d first second third one two three =
+    three ∙ ap (λ (t : List ℕ). t ++ d) (two ∙ ap (λ (t : List ℕ). t ++ b) one) ∙ append_assoc (old ++ a) b d ∙ append_assoc old a (b ++ d)

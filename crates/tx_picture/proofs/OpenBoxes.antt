@@ -26,10 +26,10 @@ and_true : (a b : Bool) → (a && b) ≡ true → (a ≡ true) × (b ≡ true)
 and_true true b h = (refl, h)
 and_true false b h = absurd (both_ways false refl h)
 
-open_cons : (p : ℕ) (span : Span) (spans : List Span) → is_open_at p span ≡ true → open_box p (span ∷ spans) ≡ Some span.holder
+pub open_cons : (p : ℕ) (span : Span) (spans : List Span) → is_open_at p span ≡ true → open_box p (span ∷ spans) ≡ Some span.holder
 open_cons p span spans e = rw e refl
 
-closed_cons : (p : ℕ) (span : Span) (spans : List Span) → is_open_at p span ≡ false → open_box p (span ∷ spans) ≡ open_box p spans
+pub closed_cons : (p : ℕ) (span : Span) (spans : List Span) → is_open_at p span ≡ false → open_box p (span ∷ spans) ≡ open_box p spans
 closed_cons p span spans e = rw e refl
 
 module _ (holders : ℕ → Option Pid) (end : End) where

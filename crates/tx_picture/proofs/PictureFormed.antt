@@ -1,32 +1,40 @@
 -- Each part of a picture is well formed, and so is the whole.
-use Rattle.std.proofs.Common.{ℕ, ◌+◌, ◌==◌, List, [], ◌∷◌, ◌++◌, Bool, codes, refl, true, false, if◌then◌else◌, length, Option, Some, None}
+use Rattle.std.proofs.Common.{ℕ, zero, suc, ◌+◌, ◌-◌, ◌==◌, List, [], ◌∷◌, ◌++◌, Bool, codes, refl, true, false, if◌then◌else◌, length, Option, Some, None}
 use Rattle.std.specs.Fmt.{decimal}
 use Rattle.std.specs.List.{flat_map}
 use Rattle.tx_base.specs.declared.names.Pid.{Pid}
 use Rattle.tx_model.specs.Events.{process_of}
 use Rattle.tx_picture.proofs.WellFormed.{a_number, a_word, each_formed, meanings_formed, shape_formed, style_formed, with_one, words_formed}
-use Rattle.tx_picture.specs.Arrows.{bent_text, passage_text, straight_text}
+use Rattle.tx_picture.specs.Arrows.{bent_text, fan_of, passage_text, passages_text, straight_text}
 use Rattle.tx_picture.specs.Columns.{columns_of}
 use Rattle.tx_picture.specs.Drawn.{Drawn}
 use Rattle.tx_picture.specs.Held.{end_at, held_text, kept_text, sent_text, signal_by, signal_text}
-use Rattle.tx_picture.specs.Layout.{words_left, x_of, y_of}
-use Rattle.tx_picture.specs.Pictures.{between, drawn_text, head_text, height_of, inner_text, legend_text, meanings_text, moved_text, picture_of, seen_text, size_text, style_text, width_of}
-use Rattle.tx_picture.specs.Steps.{label_text, line_text, mark_class, mark_text, row_text, rows_text, tie_text, tied_text, words_of}
-use Rattle.tx_picture.specs.Stretches.{bar_text, lane_text, last_row, strip_class, strip_text}
+use Rattle.tx_picture.specs.Layout.{guide_left, heads_above, heads_y, is_wide, words_left, x_of, y_of}
+use Rattle.tx_picture.specs.Pictures.{between, body_text, drawn_text, head_text, heads_text, heads_upto, height_of, inner_text, legend_text, margin_of, meanings_text, moved_text, picture_of, point_text, seen_text, size_text, style_text, widest, width_of}
+use Rattle.tx_picture.specs.Steps.{label_text, left_text, line_text, mark_class, mark_text, row_text, rows_text, tie_text, tied_text, words_of}
+use Rattle.tx_picture.specs.Stretches.{bar_text, box_text, lane_text, last_row, starter_text, strip_class, strip_text, torn_text}
 use Rattle.tx_picture.specs.Svg.{attribute, numbered, shape_text, words_text}
 use Rattle.tx_picture.specs.Ties.{tie_of}
 use Rattle.tx_picture.specs.WellFormed.{AreAttributes, IsContent, IsValue, IsWellFormed, root, one, numeral, word, joined, nothing, holding, beside}
 use Rattle.tx_picture.specs.declared.elements.Shape.TheVariants.{Ellipse, Line, Rect}
+use Rattle.tx_picture.specs.declared.fans.Fan.{Fan}
 use Rattle.tx_picture.specs.declared.held.Place.{Place}
 use Rattle.tx_picture.specs.declared.passages.Passage.{Passage}
+use Rattle.tx_picture.specs.declared.rows.Extent.{Extent}
 use Rattle.tx_picture.specs.declared.rows.Row.{Row}
 use Rattle.tx_picture.specs.declared.spans.End.{End}
 use Rattle.tx_picture.specs.declared.spans.Span.{Span}
 use Rattle.tx_picture.specs.declared.ties.Tie.{Tie}
 use Rattle.tx_picture.specs.declared.ties.Tie.TheVariants.{Holder, Child, Signal}
 
+torn_formed : (x : ℕ) (is_first : Bool) → IsContent (if is_first then shape_text Line (codes "torn") (record { 0 = x - 22; 1 = y_of 0 - 11; 2 = x + 22; 3 = y_of 0 - 11 }) else [])
+torn_formed x true = shape_formed Line (codes "torn") _
+torn_formed x false = nothing
+
 strip_formed : (columns : List Pid) (last : ℕ) (strip : Span) → IsContent (strip_text columns last strip)
-strip_formed columns last strip = shape_formed Rect (strip_class strip.end) _
+strip_formed columns last strip =
+    let x = x_of columns strip.process.0 in
+    beside (box_text x last strip) (torn_text x strip.from) (shape_formed Rect (strip_class strip.end) _) (torn_formed x (strip.from == 0))
 
 bar_formed : (x y : ℕ) (end : Option End) → IsContent (bar_text x y end)
 bar_formed x y None = nothing
@@ -39,12 +47,18 @@ lane_formed columns last lane =
     beside (shape_text Line (codes "lane") (record { 0 = x; 1 = y_of lane.from; 2 = x; 3 = bottom })) (bar_text x bottom lane.end)
     (shape_formed Line (codes "lane") (record { 0 = x; 1 = y_of lane.from; 2 = x; 3 = bottom })) (bar_formed x bottom lane.end)
 
-apart_formed : (x to : ℕ) (passage : Passage) (same : Bool) → IsContent (if same then bent_text x passage else straight_text x to passage)
-apart_formed x to passage true = beside (shape_text Line (codes "bend") _) (shape_text Line (codes "pipe") _) (shape_formed Line (codes "bend") _) (shape_formed Line (codes "pipe") _)
-apart_formed x to passage false = shape_formed Line (codes "pipe") _
+apart_formed : (x to : ℕ) (fan : Fan) (passage : Passage) (same : Bool) → IsContent (if same then bent_text x fan passage else straight_text x to fan passage)
+apart_formed x to fan passage true = beside (shape_text Line (codes "bend") _) (shape_text Line (codes "pipe") _) (shape_formed Line (codes "bend") _) (shape_formed Line (codes "pipe") _)
+apart_formed x to fan passage false = shape_formed Line (codes "pipe") _
 
-passage_formed : (columns : List Pid) (passage : Passage) → IsContent (passage_text columns passage)
-passage_formed columns passage = apart_formed (x_of columns passage.writer.0) (x_of columns passage.reader.0) passage (passage.writer.0 == passage.reader.0)
+passage_formed : (columns : List Pid) (fan : Fan) (passage : Passage) → IsContent (passage_text columns fan passage)
+passage_formed columns fan passage = apart_formed (x_of columns passage.writer.0) (x_of columns passage.reader.0) fan passage (passage.writer.0 == passage.reader.0)
+
+passages_formed : (columns : List Pid) (before passages : List Passage) → IsContent (passages_text columns before passages)
+passages_formed columns before [] = nothing
+passages_formed columns before (passage ∷ passages) =
+    beside (passage_text columns (fan_of before passage) passage) (passages_text columns (before ++ passage ∷ []) passages) (passage_formed columns (fan_of before passage) passage)
+    (passages_formed columns (before ++ passage ∷ []) passages)
 
 kept_formed : (place : Place) (bottom : ℕ) → IsContent (kept_text place bottom)
 kept_formed place bottom = beside (shape_text Line (codes "held") _) (shape_text Line (codes "held") _) (shape_formed Line (codes "held") _) (shape_formed Line (codes "held") _)
@@ -72,26 +86,35 @@ tie_formed columns strips last number row (Some (Holder starter)) = shape_formed
 tie_formed columns strips last number row (Some (Child child)) = shape_formed Line (codes "fork") _
 tie_formed columns strips last number row (Some (Signal target)) = signal_formed _ strips last number row
 
-label_formed : (x number : ℕ) (row : Row) → IsContent (label_text x number row)
-label_formed x number row =
-    beside (words_text (codes "number") 64 (y_of number + 4) (decimal number)) (words_text (codes "step") x (y_of number + 4) (words_of row))
-    (words_formed (codes "number") 64 (y_of number + 4) (decimal number)) (words_formed (codes "step") x (y_of number + 4) (words_of row))
+left_formed : (wide : Bool) (y : ℕ) (words : List ℕ) → IsContent (left_text wide y words)
+left_formed true y words = words_formed (codes "left") 24 y words
+left_formed false y words = nothing
 
-row_formed : (columns : List Pid) (strips : List Span) (last number : ℕ) (row : Row) → IsContent (row_text columns strips last number row)
-row_formed columns strips last number row =
+label_formed : (columns : List Pid) (before number : ℕ) (row : Row) → IsContent (label_text columns before number row)
+label_formed columns before number row =
+    let y = y_of number + 4 in
+    let x = words_left columns + 8 in
+    let left = left_text (is_wide columns) y (words_of row) in
+    let shown = decimal (before + number) in
+    beside (words_text (codes "number") 64 y shown) (left ++ words_text (codes "step") x y (words_of row)) (words_formed (codes "number") 64 y shown)
+    (beside left (words_text (codes "step") x y (words_of row)) (left_formed (is_wide columns) y (words_of row)) (words_formed (codes "step") x y (words_of row)))
+
+row_formed : (columns : List Pid) (strips : List Span) (extent : Extent) (number : ℕ) (row : Row) → IsContent (row_text columns strips extent number row)
+row_formed columns strips extent number row =
     let x = x_of columns (process_of row.step) in
-    let guide = line_text (codes "guide") x (y_of number) (words_left columns) in
-    let tied = tied_text columns strips last number row in
+    let guide = line_text (codes "guide") (guide_left columns x) (y_of number) (words_left columns) in
+    let tied = tied_text columns strips extent.last number row in
     let mark = mark_text x (y_of number) row.reply in
-    let label = label_text (words_left columns + 8) number row in
+    let label = label_text columns extent.before number row in
     beside guide (tied ++ (mark ++ label)) (shape_formed Line (codes "guide") _)
-    (beside tied (mark ++ label) (tie_formed columns strips last number row (tie_of row.step row.reply))
-    (beside mark label (shape_formed Ellipse (mark_class row.reply) _) (label_formed (words_left columns + 8) number row)))
+    (beside tied (mark ++ label) (tie_formed columns strips extent.last number row (tie_of row.step row.reply))
+    (beside mark label (shape_formed Ellipse (mark_class row.reply) _) (label_formed columns extent.before number row)))
 
-rows_formed : (columns : List Pid) (strips : List Span) (last number : ℕ) (rows : List Row) → IsContent (rows_text columns strips last number rows)
-rows_formed columns strips last number [] = nothing
-rows_formed columns strips last number (row ∷ rows) =
-    beside (row_text columns strips last number row) (rows_text columns strips last (number + 1) rows) (row_formed columns strips last number row) (rows_formed columns strips last (number + 1) rows)
+rows_formed : (columns : List Pid) (strips : List Span) (extent : Extent) (number : ℕ) (rows : List Row) → IsContent (rows_text columns strips extent number rows)
+rows_formed columns strips extent number [] = nothing
+rows_formed columns strips extent number (row ∷ rows) =
+    beside (row_text columns strips extent number row) (rows_text columns strips extent (number + 1) rows) (row_formed columns strips extent number row)
+    (rows_formed columns strips extent (number + 1) rows)
 
 between_value : (front back : List ℕ) (n : ℕ) → IsValue front → IsValue back → IsValue (between front n back)
 unfolding between
@@ -113,12 +136,27 @@ size_formed width height =
     (one (codes "viewBox") value refl
     (joined (between (codes "0 0 ") width (codes " ")) (decimal height) (between_value (codes "0 0 ") (codes " ") width (word (codes "0 0 ")) (word (codes " "))) (numeral height)))))
 
+moved_formed : (x y : ℕ) → AreAttributes (codes "transform" ∷ []) (moved_text x y)
+unfolding moved_text point_text
+moved_formed x y =
+    let first = between (codes "translate(") x (codes ",") in
+    let second = between [] y (codes ")") in
+    one (codes "transform") (first ++ second) refl
+    (joined first second (between_value (codes "translate(") (codes ",") x (word (codes "translate(")) (word (codes ","))) (between_value [] (codes ")") y (word []) (word (codes ")"))))
+
 legend_formed : (y : ℕ) → IsContent (legend_text y)
-unfolding legend_text moved_text
-legend_formed y =
-    let value = between (codes "translate(72,") y (codes ")") in
-    holding (codes "g") _ (attribute (codes "transform") value) meanings_text refl
-    (one (codes "transform") value refl (between_value (codes "translate(72,") (codes ")") y (word (codes "translate(72,")) (word (codes ")")))) refl meanings_formed
+unfolding legend_text
+legend_formed y = holding (codes "g") _ (moved_text 72 y) meanings_text refl (moved_formed 72 y) refl meanings_formed
+
+heads_formed : (columns : List Pid) (y : ℕ) → IsContent (heads_text columns y)
+heads_formed columns y =
+    beside (words_text (codes "number") 64 y (codes "process")) (flat_map (head_text columns y) columns) (words_formed (codes "number") 64 y (codes "process"))
+    (each_formed (head_text columns y) columns (λ process. words_formed (codes "head") (x_of columns process.0) y (decimal process.0)))
+
+all_heads_formed : (columns : List Pid) (count : ℕ) → IsContent (heads_upto columns count)
+all_heads_formed columns zero = nothing
+all_heads_formed columns (suc count) =
+    beside (heads_upto columns count) (heads_text columns (heads_y count)) (all_heads_formed columns count) (heads_formed columns (heads_y count))
 
 drawn_formed : (columns : List Pid) (drawn : Drawn) → IsContent (drawn_text columns drawn)
 unfolding drawn_text
@@ -126,24 +164,36 @@ drawn_formed columns drawn =
     let last = length drawn.rows in
     let strips = flat_map (strip_text columns last) drawn.strips in
     let lanes = flat_map (lane_text columns last) drawn.lanes in
-    let passages = flat_map (passage_text columns) drawn.passages in
-    let rows = rows_text columns drawn.strips last 1 drawn.rows in
-    beside strips (lanes ++ (passages ++ rows)) (each_formed (strip_text columns last) drawn.strips (strip_formed columns last))
-    (beside lanes (passages ++ rows) (each_formed (lane_text columns last) drawn.lanes (lane_formed columns last))
-    (beside passages rows (each_formed (passage_text columns) drawn.passages (passage_formed columns)) (rows_formed columns drawn.strips last 1 drawn.rows)))
+    let passages = passages_text columns [] drawn.passages in
+    let extent : Extent = record { before = drawn.before; last = last } in
+    let rows = rows_text columns drawn.strips extent 1 drawn.rows in
+    let starters = flat_map (starter_text columns) drawn.strips in
+    beside strips (lanes ++ (passages ++ (rows ++ starters))) (each_formed (strip_text columns last) drawn.strips (strip_formed columns last))
+    (beside lanes (passages ++ (rows ++ starters)) (each_formed (lane_text columns last) drawn.lanes (lane_formed columns last))
+    (beside passages (rows ++ starters) (passages_formed columns [] drawn.passages)
+    (beside rows starters (rows_formed columns drawn.strips extent 1 drawn.rows)
+    (each_formed (starter_text columns) drawn.strips (λ strip. words_formed (codes "starter") (x_of columns strip.process.0 - 20) (y_of strip.from - 2) (decimal strip.holder.0))))))
 
-inner_formed : (columns : List Pid) (drawn : Drawn) → IsContent (inner_text columns drawn)
-inner_formed columns drawn =
-    let heads = flat_map (head_text columns) columns in
+body_formed : (columns : List Pid) (margin : ℕ) (drawn : Drawn) → IsContent (body_text columns margin drawn)
+unfolding body_text
+body_formed columns margin drawn =
+    let count = heads_above (length drawn.rows) + 1 in
+    let heads = heads_upto columns count in
+    holding (codes "g") _ (moved_text margin 0) (drawn_text columns drawn ++ heads) refl (moved_formed margin 0) refl
+    (beside (drawn_text columns drawn) heads (drawn_formed columns drawn) (all_heads_formed columns count))
+
+inner_formed : (columns : List Pid) (margin : ℕ) (drawn : Drawn) → IsContent (inner_text columns margin drawn)
+inner_formed columns margin drawn =
     let legend = legend_text (y_of (length drawn.rows) + 32) in
-    beside style_text (heads ++ (drawn_text columns drawn ++ legend)) style_formed
-    (beside heads (drawn_text columns drawn ++ legend) (each_formed (head_text columns) columns (λ process. words_formed (codes "head") (x_of columns process.0) 28 (decimal process.0)))
-    (beside (drawn_text columns drawn) legend (drawn_formed columns drawn) (legend_formed (y_of (length drawn.rows) + 32))))
+    beside style_text (body_text columns margin drawn ++ legend) style_formed
+    (beside (body_text columns margin drawn) legend (body_formed columns margin drawn) (legend_formed (y_of (length drawn.rows) + 32)))
 
 -- the whole picture
 pub picture_formed : (drawn : Drawn) → IsWellFormed (picture_of drawn)
 unfolding size_names
 picture_formed drawn =
-    let columns = columns_of drawn.lanes drawn.rows in
-    let size = size_text (width_of columns drawn.rows) (height_of drawn.rows) in
-    root (codes "svg") size_names size (inner_text columns drawn) refl (size_formed (width_of columns drawn.rows) (height_of drawn.rows)) refl (inner_formed columns drawn)
+    let columns = columns_of drawn in
+    let most = widest drawn.rows in
+    let size = size_text (width_of columns most) (height_of drawn.rows) in
+    let margin = margin_of columns most in
+    root (codes "svg") size_names size (inner_text columns margin drawn) refl (size_formed (width_of columns most) (height_of drawn.rows)) refl (inner_formed columns margin drawn)

@@ -1,6 +1,6 @@
 -- Which steps begin and end the boxes of a picture, by what they are to the transactions and by what they are answered. Own
 -- rules.
-use Rattle.std.specs.Prelude.{◌≡◌, ◌≤◌, ℕ, Bool, true, false, List, [], Option, Some, None, find, option_map}
+use Rattle.std.specs.Prelude.{◌≡◌, ◌≤◌, ◌==◌, ◌&&◌, ℕ, Bool, true, false, List, [], Option, Some, None, find, option_map}
 use Rattle.tx_base.specs.declared.names.Pid.{Pid}
 use Rattle.tx_base.specs.declared.steps.Reply.TheVariants.{Aborted, Committed}
 use Rattle.tx_base.specs.declared.steps.Step.{Step}
@@ -12,7 +12,9 @@ use Rattle.tx_model.specs.Membership.{Begins, Forks, Within, Commits, Aborts}
 use Rattle.tx_model.specs.Schedules.{history_of}
 use Rattle.tx_model.specs.View.{View, next, role_on, view}
 use Rattle.tx_picture.specs.Drawings.{drawing_of, is_abort, members}
+use Rattle.tx_picture.specs.Excerpts.{drawing_in, made_for, steps_before}
 use Rattle.tx_picture.specs.Spans.{is_open_at}
+use Rattle.tx_picture.specs.declared.excerpts.Excerpt.{Excerpt}
 use Rattle.tx_picture.specs.declared.spans.Span.{Span}
 use Rattle.tx_script.specs.Report.{start_state}
 
@@ -49,7 +51,24 @@ EndedHaveNoMembers = (V : View) (step : Step) (s p : ℕ) (aborted : Bool) → E
 abbrev pub open_box : ℕ → List Span → Option Pid
 open_box p strips = option_map (λ strip. strip.holder) (find (is_open_at p) strips)
 
+-- the holder of the box of process p that begins at the top edge
+abbrev pub is_at_top : ℕ → Span → Bool
+is_at_top p strip = strip.from == 0 && strip.process.0 == p
+
+abbrev pub box_at_top : ℕ → List Span → Option Pid
+box_at_top p strips = option_map (λ strip. strip.holder) (find (is_at_top p) strips)
+
 -- after a schedule the open box of a process is of the transaction that it is a member of then, and it has none where it is none
 abbrev pub OpenBoxesAreOfMembers : Type 0
 OpenBoxesAreOfMembers = (header : Header) (steps : List Step) (p : ℕ) → 1 ≤ p → p ≤ (start_state header).width →
     open_box p (drawing_of header steps).strips ≡ members (view (start_state header) (history_of (start_state header) [] steps)) p
+
+-- an excerpt begins with the boxes of those that are members before its first step
+abbrev pub ExcerptsBeginWithMembers : Type 0
+ExcerptsBeginWithMembers = (excerpt : Excerpt) (header : Header) (steps : List Step) (p : ℕ) → 1 ≤ p → p ≤ (start_state header).width →
+    box_at_top p (drawing_in excerpt header steps).strips ≡ members (view (start_state header) (history_of (start_state header) [] (steps_before excerpt steps))) p
+
+-- and its open boxes are of those that are members after its last one
+abbrev pub ExcerptsEndWithMembers : Type 0
+ExcerptsEndWithMembers = (excerpt : Excerpt) (header : Header) (steps : List Step) (p : ℕ) → 1 ≤ p → p ≤ (start_state header).width →
+    open_box p (drawing_in excerpt header steps).strips ≡ members (view (start_state header) (history_of (start_state header) [] (made_for excerpt steps))) p

@@ -76,6 +76,7 @@ ending V step row = record { row = row; aborted = is_abort (role_on V step) }
 -- the step of a row more, which leads from one view to another
 abbrev pub drawn_with : View → Step → ℕ → View → Drawn → Drawn
 drawn_with V step row W drawn = record {
+  before = drawn.before;
   rows = drawn.rows ++ record { step = step; reply = answer V step; holder = holder_of V step } ∷ [];
   lanes = followed_upto (runners W) (ending V step row) W.table.width drawn.lanes;
   strips = followed_upto (members W) (ending V step row) W.table.width drawn.strips;
@@ -93,6 +94,7 @@ module _ (S : State) where
 -- before the first step
 abbrev pub first_drawn : View → Drawn
 first_drawn V = record {
+  before = 0;
   rows = [];
   lanes = followed_upto (runners V) (record { row = 0; aborted = false }) V.table.width [];
   strips = [];

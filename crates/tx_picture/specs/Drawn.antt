@@ -1,5 +1,5 @@
 -- What there is to draw of a schedule.
-use Rattle.std.specs.Prelude.{List}
+use Rattle.std.specs.Prelude.{ℕ, List}
 use Rattle.tx_picture.specs.declared.drawing.Drawing.{Drawing}
 use Rattle.tx_picture.specs.declared.passages.Passage.{Passage}
 use Rattle.tx_picture.specs.declared.passages.Written.{Written}
@@ -7,6 +7,8 @@ use Rattle.tx_picture.specs.declared.rows.Row.{Row}
 use Rattle.tx_picture.specs.declared.spans.Span.{Span}
 
 pub record Drawn : Type 0 where
+  -- how many steps are before the first row
+  pub before : ℕ
   -- the steps with their answers, in order
   pub rows : List Row
   -- where each process runs
@@ -20,6 +22,7 @@ pub record Drawn : Type 0 where
 
 abbrev pub drawn_as : Drawing → Drawn
 drawn_as drawing = record {
+  before = drawing.before;
   rows = drawing.rows.items;
   lanes = drawing.lanes.items;
   strips = drawing.strips.items;

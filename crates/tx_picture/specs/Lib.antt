@@ -3,6 +3,7 @@ pub mod Boxes
 pub mod Columns
 pub mod Drawings
 pub mod Drawn
+pub mod Excerpts
 pub mod Grammars
 pub mod Held
 pub mod Layout

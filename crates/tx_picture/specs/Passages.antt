@@ -1,6 +1,6 @@
 -- Which bytes go through pipes from which write to which read. The bytes that a pipe holds are the last so many that were
 -- written to it, and a read takes the first of them. Own rules.
-use Rattle.std.specs.Prelude.{ℕ, ◌-◌, Bool, false, ◌&&◌, ◌==◌, List, [], ◌∷◌, ◌++◌, Option, Some, None, fold, if◌then◌else◌, map, nat_lt}
+use Rattle.std.specs.Prelude.{ℕ, ◌-◌, Bool, true, false, ◌&&◌, ◌==◌, List, [], ◌∷◌, ◌++◌, Option, Some, None, fold, if◌then◌else◌, map, nat_lt}
 use Rattle.tx_base.specs.declared.names.Pid.{Pid}
 use Rattle.tx_base.specs.declared.names.PipeNo.{PipeNo}
 use Rattle.tx_base.specs.declared.steps.Reply.{Reply}
@@ -29,6 +29,12 @@ abbrev pub let_go : Reply → Written → Written
 let_go (Committed undelivered) written = record written { holder = None }
 let_go (Aborted status) written = record written { count = 0 }
 let_go reply written = written
+
+-- whether the step that was answered so ended its transaction
+abbrev pub settles : Reply → Bool
+settles (Committed undelivered) = true
+settles (Aborted status) = true
+settles reply = false
 
 abbrev pub settled : Option Pid → Reply → Written → Written
 settled starter reply written = if is_inside starter written then let_go reply written else written

@@ -1,8 +1,9 @@
 -- How stretches of columns are shown: lanes, and the boxes of transactions.
-use Rattle.std.specs.Prelude.{ℕ, ◌+◌, ◌*◌, ◌-◌, List, [], ◌++◌, Option, Some, None, codes, if◌then◌else◌}
+use Rattle.std.specs.Prelude.{ℕ, ◌+◌, ◌-◌, ◌==◌, List, [], ◌++◌, Option, Some, None, codes, if◌then◌else◌}
+use Rattle.std.specs.Fmt.{decimal}
 use Rattle.tx_base.specs.declared.names.Pid.{Pid}
 use Rattle.tx_picture.specs.Layout.{x_of, y_of}
-use Rattle.tx_picture.specs.Svg.{shape_text}
+use Rattle.tx_picture.specs.Svg.{shape_text, words_text}
 use Rattle.tx_picture.specs.declared.elements.Shape.TheVariants.{Rect, Line}
 use Rattle.tx_picture.specs.declared.spans.End.{End}
 use Rattle.tx_picture.specs.declared.spans.Span.{Span}
@@ -16,11 +17,22 @@ abbrev pub last_row : ℕ → Option End → ℕ
 last_row last None = last
 last_row last (Some end) = end.row
 
--- a member of a transaction, from the row in which it joins to that of the end, both rows inside. Boxes side by side do not touch
+-- the box of a member of a transaction, from the row in which it joins to that of the end, both rows inside. Boxes side by side do not touch
+abbrev pub box_text : ℕ → ℕ → Span → List ℕ
+box_text x last strip =
+    shape_text Rect (strip_class strip.end) (record { 0 = x - 22; 1 = y_of strip.from - 11; 2 = 44; 3 = y_of (last_row last strip.end) - y_of strip.from + 22 })
+
+-- the broken top of a box that was there before the first row
+abbrev pub torn_text : ℕ → ℕ → List ℕ
+torn_text x from = if from == 0 then shape_text Line (codes "torn") (record { 0 = x - 22; 1 = y_of 0 - 11; 2 = x + 22; 3 = y_of 0 - 11 }) else []
+
 abbrev pub strip_text : List Pid → ℕ → Span → List ℕ
 strip_text columns last strip =
-    shape_text Rect (strip_class strip.end)
-    (record { 0 = x_of columns strip.process.0 - 22; 1 = y_of strip.from - 11; 2 = 44; 3 = 24 * (last_row last strip.end - strip.from) + 22 })
+    let x = x_of columns strip.process.0 in box_text x last strip ++ torn_text x strip.from
+
+-- the number of the transaction's starter, at the top of the box
+abbrev pub starter_text : List Pid → Span → List ℕ
+starter_text columns strip = words_text (codes "starter") (x_of columns strip.process.0 - 20) (y_of strip.from - 2) (decimal strip.holder.0)
 
 -- the bar where a process ends
 abbrev pub bar_text : ℕ → ℕ → Option End → List ℕ

@@ -1,47 +1,79 @@
 //! Which column a process has.
 ghost use Rattle.std.specs.Prelude.{◌≡◌, IfOk, OnOk, position};
 ghost use Rattle.std.specs.List.{list_any};
-ghost use Rattle.tx_picture.specs.Columns.{column_of, columns_of, is_at, noted, noted_lanes, noted_rows};
+ghost use Rattle.tx_picture.specs.Columns.{column_of, columns_of, is_at, noted, noted_row, noted_rows, noted_spans, noted_tie, noted_writers};
+ghost use Rattle.tx_picture.specs.Drawn.{drawn_as};
 ghost use Rattle.tx_model.specs.Events.{process_of};
 
+use crate::drawing::Drawing;
+use crate::passages::Passage;
 use crate::rows::Row;
 use crate::spans::Span;
+use crate::ties::{Tie, tie_of};
 use std::alloc::{AllocError, Global};
 use tx_base::{Pid, Step};
 
 /// The processes that have a column, from the left to the right: in the order in which they come, and
-/// then those that never run, and whose steps are refused.
-pub(crate) fn columns_of(
-    alloc: Global,
-    lanes: &[Span],
-    rows: &[Row],
-) -> Result<Vec<Pid>, AllocError>
-    ensures { IfOk result (λ columns. columns.items ≡ columns_of lanes.now rows.now) }
+/// then those that never run, and whose steps are refused or to which only something leads.
+pub(crate) fn columns_of(alloc: Global, drawing: &Drawing) -> Result<Vec<Pid>, AllocError>
+    ensures { IfOk result (λ columns. columns.items ≡ columns_of (drawn_as drawing.now)) }
 {
     let mut columns = Vec::new(alloc);
-    note_lanes(&mut columns, lanes)?;
-    note_rows(&mut columns, rows)?;
+    note_spans(&mut columns, drawing.lanes.as_slice())?;
+    note_spans(&mut columns, drawing.strips.as_slice())?;
+    note_writers(&mut columns, drawing.passages.as_slice())?;
+    note_rows(&mut columns, drawing.rows.as_slice())?;
     Ok(columns)
 }
 
-/// A column for the process of each lane.
-fn note_lanes(columns: &mut Vec<Pid>, lanes: &[Span]) -> Result<(), AllocError>
-    ensures { OnOk result (columns.new.items ≡ noted_lanes columns.old.items lanes.now) }
+/// A column for the process of each stretch.
+fn note_spans(columns: &mut Vec<Pid>, spans: &[Span]) -> Result<(), AllocError>
+    ensures { OnOk result (columns.new.items ≡ noted_spans columns.old.items spans.now) }
 {
-    for i in 0..lanes.len() {
-        note(columns, lanes[i].process)?;
+    for i in 0..spans.len() {
+        note(columns, spans[i].process)?;
     }
     Ok(())
 }
 
-/// A column for the process of each row's step.
+/// A column for the writer of what goes through a pipe.
+fn note_writers(columns: &mut Vec<Pid>, passages: &[Passage]) -> Result<(), AllocError>
+    ensures { OnOk result (columns.new.items ≡ noted_writers columns.old.items passages.now) }
+{
+    for i in 0..passages.len() {
+        note(columns, passages[i].writer)?;
+    }
+    Ok(())
+}
+
+/// Columns for the processes of each row.
 fn note_rows(columns: &mut Vec<Pid>, rows: &[Row]) -> Result<(), AllocError>
     ensures { OnOk result (columns.new.items ≡ noted_rows columns.old.items rows.now) }
 {
     for i in 0..rows.len() {
-        note(columns, maker(&rows[i].step))?;
+        note_row(columns, &rows[i])?;
     }
     Ok(())
+}
+
+/// A column for the process whose step it is, and for that to which something leads from it.
+fn note_row(columns: &mut Vec<Pid>, row: &Row) -> Result<(), AllocError>
+    ensures { OnOk result (columns.new.items ≡ noted_row columns.old.items row.now) }
+{
+    note(columns, maker(&row.step))?;
+    note_tie(columns, tie_of(row))
+}
+
+/// A column for the process that something leads to.
+fn note_tie(columns: &mut Vec<Pid>, tie: Option<Tie>) -> Result<(), AllocError>
+    ensures { OnOk result (columns.new.items ≡ noted_tie columns.old.items tie) }
+{
+    match tie {
+        None => Ok(()),
+        Some(Tie::Holder(process) | Tie::Child(process) | Tie::Signal(process)) => {
+            note(columns, process)
+        }
+    }
 }
 
 /// A column for the process, if it has none.

@@ -6,6 +6,8 @@ use crate::spans::Span;
 /// What there is to draw of a schedule.
 #[derive(Drop)]
 pub struct Drawing {
+    /// How many steps are before the first row.
+    pub before: u16,
     /// Each step with its answer, in order.
     pub rows: Vec<Row>,
     /// Where each process runs, in the order in which they come.

@@ -1,5 +1,5 @@
 //! The law of the boxes, as the contract of a function that does nothing.
-ghost use Rattle.tx_picture.specs.Boxes.{EndedHaveNoMembers, JoinersAreMembers, MembersChange, OpenBoxesAreOfMembers};
+ghost use Rattle.tx_picture.specs.Boxes.{EndedHaveNoMembers, ExcerptsBeginWithMembers, ExcerptsEndWithMembers, JoinersAreMembers, MembersChange, OpenBoxesAreOfMembers};
 
 use tx_laws::{footprints, next_view, step_by_step};
 
@@ -8,12 +8,16 @@ use tx_laws::{footprints, next_view, step_by_step};
 /// then answered `committed` or `aborted`, as the box's end says. No step moves a member to another
 /// transaction. Whom such a step makes a member is one after it; and where a transaction ends, none is
 /// a member of it any more. After each schedule, so in each row of a longer one, the box that a process
-/// has open is that of the transaction that it is a member of then.
+/// has open is that of the transaction that it is a member of then. So it is after the last step of an
+/// excerpt; and the box of a process that an excerpt begins with is that of the transaction that it is a
+/// member of before the first one.
 pub fn boxes_begin_and_end()
     ensures changes { MembersChange }
     ensures joined { JoinersAreMembers }
     ensures ended { EndedHaveNoMembers }
     ensures boxes { OpenBoxesAreOfMembers }
+    ensures begun { ExcerptsBeginWithMembers }
+    ensures left { ExcerptsEndWithMembers }
 {
     next_view();
     step_by_step();

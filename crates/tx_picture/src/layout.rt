@@ -1,6 +1,6 @@
 //! Where things stand in a picture, in pixels.
 ghost use Rattle.std.specs.Prelude.{◌≡◌, ◌*◌, ◌+◌};
-ghost use Rattle.tx_picture.specs.Layout.{words_left, x_of, y_of};
+ghost use Rattle.tx_picture.specs.Layout.{guide_left, heads_above, heads_y, is_wide, words_left, x_of, y_of};
 
 use crate::columns::column_of;
 use tx_base::Pid;
@@ -19,9 +19,37 @@ pub(crate) fn words_left(columns: &[Pid]) -> u64
     96 + 48 * columns.len().min(1000) as u64
 }
 
+/// Whether there are so many columns that the texts stand to their left too.
+pub(crate) fn is_wide(columns: &[Pid]) -> bool
+    ensures { result ≡ is_wide columns.now }
+{
+    columns.len() > 24
+}
+
+/// Where the line to the texts begins, of a step whose mark stands there.
+pub(crate) fn guide_left(columns: &[Pid], x: u64) -> u64
+    ensures { result ≡ guide_left columns.now x }
+{
+    if is_wide(columns) { 72 } else { x }
+}
+
 /// The middle of a row.
 pub(crate) fn y_of(row: u16) -> u64
     ensures { result ≡ y_of row }
 {
-    52 + 24 * u64::from(row)
+    52 + 24 * u64::from(row) + 48 * u64::from(heads_above(row))
+}
+
+/// How often the numbers of the processes stand again above a row: after each 40 rows.
+pub(crate) fn heads_above(row: u16) -> u16
+    ensures { result ≡ heads_above row }
+{
+    row.saturating_sub(1) / 40
+}
+
+/// Where the numbers of the processes stand above 40 rows, before which there are so many times 40.
+pub(crate) fn heads_y(before: u16) -> u64
+    ensures { result ≡ heads_y before }
+{
+    28 + 1008 * u64::from(before)
 }

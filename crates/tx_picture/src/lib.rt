@@ -2,15 +2,16 @@
 //! A picture of a schedule, in SVG.
 //!
 //! `picture` reads a schedule from one end and writes its picture to the other; `picture_text` answers
-//! a text. `walk` makes the steps on a machine and notes in a `Drawing` what there is to draw: each
-//! step with its answer (`Row`), the stretches of columns (`Span`) in which a process runs, or is a
-//! member of a transaction, and which read took bytes of which write (`Passage`), by what each step asks
-//! of a pipe (`transfers`). `whole` writes it: the stretches (`stretches`), what went through pipes
-//! (`arrows`), and each step by its mark and its text (`steps`), with what leads to another column
-//! (`ties`, and `held` for signals that wait for a commit). `columns` and `layout` say where things
-//! stand; `elements` and `escape` write the text of elements, of which `specs/WellFormed.antt` says when
-//! it is well formed. A box begins and ends by the rules' table of members, and whether its end is an
-//! abort, the rules' role of the step says.
+//! a text: with the steps of an excerpt of it. `walk` makes the steps on a machine and notes in a
+//! `Drawing` what there is to draw: each step with its answer (`Row`), the stretches of columns (`Span`)
+//! in which a process runs, or is a member of a transaction, and which read took bytes of which write
+//! (`Passage`), by what each step asks of a pipe (`transfers`). `excerpts` leaves out what is before the
+//! excerpt. `whole` writes the rest: the stretches (`stretches`), what went through pipes (`arrows`, by
+//! `fans` where several are at one mark), and each step by its mark and its text (`steps`), with what
+//! leads to another column (`ties`, and `held` for signals that wait for a commit). `columns` and
+//! `layout` say where things stand; `elements` and `escape` write the text of elements, of which
+//! `specs/WellFormed.antt` says when it is well formed. A box begins and ends by the rules' table of
+//! members, and whether its end is an abort, the rules' role of the step says.
 
 mod arrows;
 mod columns;
@@ -18,6 +19,8 @@ mod commands;
 mod drawing;
 mod elements;
 mod escape;
+mod excerpts;
+mod fans;
 mod held;
 mod laws;
 mod layout;
@@ -34,6 +37,7 @@ mod whole;
 
 pub use commands::{picture, picture_text};
 pub use drawing::Drawing;
+pub use excerpts::Excerpt;
 pub use laws::boxes_begin_and_end;
 pub use passages::{Passage, Written};
 pub use rows::Row;

@@ -2,7 +2,7 @@
 //! write. The bytes that a pipe holds are the last so many that were written to it, and a read takes
 //! the first of them.
 ghost use Rattle.std.specs.Prelude.{◌≡◌, IfOk, OnOk, map};
-ghost use Rattle.tx_picture.specs.Passages.{is_inside, let_go, passages_after, settled, taken, taken_from, written_after};
+ghost use Rattle.tx_picture.specs.Passages.{is_inside, let_go, passages_after, settled, settles, taken, taken_from, written_after};
 ghost use Rattle.tx_picture.specs.Transfers.{moved};
 
 use std::alloc::AllocError;
@@ -94,9 +94,19 @@ pub(crate) fn note_written(
 fn settle(written: &mut [Written], starter: Option<Pid>, reply: &Reply)
     ensures { written.new ≡ map (settled starter reply.now) written.old }
 {
+    if !settles(reply) {
+        return;
+    }
     for one in written.iter_mut() {
         *one = settled(*one, starter, reply);
     }
+}
+
+/// Whether the step that was answered so ended its transaction.
+fn settles(reply: &Reply) -> bool
+    ensures { result ≡ settles reply.now }
+{
+    matches!(reply, Reply::Committed { .. } | Reply::Aborted(_))
 }
 
 /// A write after a step that was made inside of that starter's transaction, and was answered so.
@@ -173,6 +183,9 @@ fn take(
 {
     let mut rest = reading.held;
     for i in 0..written.len() {
+        if rest == 0 {
+            return Ok(());
+        }
         rest = take_from(passages, written[i], reading, rest)?;
     }
     Ok(())

@@ -3,13 +3,13 @@
 ghost use Rattle.std.specs.Prelude.{◌≡◌, ◌≤◌, ◌+◌, ◌++◌, IfOk, List, OnOk, length, string_bytes};
 ghost use Rattle.std.specs.Fmt.{decimal};
 ghost use Rattle.tx_picture.specs.Svg.{words_text};
-ghost use Rattle.tx_picture.specs.Steps.{label_text, mark_text, row_text, rows_text, tied_text, words_of};
+ghost use Rattle.tx_picture.specs.Steps.{label_text, left_text, mark_text, row_text, rows_text, tied_text, words_of};
 
 use crate::columns::maker;
 use crate::elements::{Numbers, Shape, put_shape, put_words};
 use crate::held::{Place, put_signal};
-use crate::layout::{words_left, x_of, y_of};
-use crate::rows::Row;
+use crate::layout::{guide_left, is_wide, words_left, x_of, y_of};
+use crate::rows::{Extent, Row};
 use crate::spans::Span;
 use crate::ties::{Tie, tie_of};
 use std::alloc::{AllocError, Global};
@@ -17,21 +17,21 @@ use tx_base::{Pid, Reply};
 use tx_lines::{put, put_count, put_step};
 use tx_text::put_named_reply;
 
-/// Appends the steps. There may be 200.
+/// Appends the steps.
 pub(crate) fn put_rows(
     alloc: Global,
     text: &mut String,
     columns: &[Pid],
     strips: &[Span],
+    extent: Extent,
     rows: &[Row],
 ) -> Result<(), AllocError>
-    requires { length rows.now ≤ 200 }
+    requires { length rows.now ≤ 4096 }
     ensures { OnOk result (string_bytes text.new ≡ string_bytes text.old
-        ++ rows_text columns.now strips.now (length rows.now) 1 rows.now) }
+        ++ rows_text columns.now strips.now extent 1 rows.now) }
 {
-    let last = rows.len() as u16;
     for i in 0..rows.len() {
-        put_row(alloc, text, columns, strips, last, i as u16 + 1, &rows[i])?;
+        put_row(alloc, text, columns, strips, extent, i as u16 + 1, &rows[i])?;
     }
     Ok(())
 }
@@ -42,20 +42,20 @@ fn put_row(
     text: &mut String,
     columns: &[Pid],
     strips: &[Span],
-    last: u16,
+    extent: Extent,
     number: u16,
     row: &Row,
 ) -> Result<(), AllocError>
     ensures { OnOk result (string_bytes text.new ≡ string_bytes text.old
-        ++ row_text columns.now strips.now last number row.now) }
+        ++ row_text columns.now strips.now extent number row.now) }
 {
     let x = x_of(columns, maker(&row.step));
     let y = y_of(number);
-    let right = words_left(columns);
-    put_shape(text, Shape::Line, "guide", Numbers(x, y, right, y))?;
-    put_tie(text, columns, strips, last, number, row)?;
+    let guide = Numbers(guide_left(columns, x), y, words_left(columns), y);
+    put_shape(text, Shape::Line, "guide", guide)?;
+    put_tie(text, columns, strips, extent.last, number, row)?;
     put_mark(text, x, y, &row.reply)?;
-    put_labels(alloc, text, right + 8, number, row)
+    put_labels(alloc, text, columns, extent.before, number, row)
 }
 
 /// Appends what leads from a step's mark to another column.
@@ -110,17 +110,31 @@ fn put_mark(text: &mut String, x: u64, y: u64, reply: &Reply) -> Result<(), Allo
 fn put_labels(
     alloc: Global,
     text: &mut String,
-    x: u64,
+    columns: &[Pid],
+    before: u16,
     number: u16,
     row: &Row,
 ) -> Result<(), AllocError>
-    ensures { OnOk result
-        (string_bytes text.new ≡ string_bytes text.old ++ label_text x number row.now) }
+    ensures { OnOk result (string_bytes text.new ≡ string_bytes text.old
+        ++ label_text columns.now before number row.now) }
 {
     let y = y_of(number) + 4;
-    put_numeral(alloc, text, "number", 64, y, number)?;
+    let step = u64::from(before) + u64::from(number);
+    put_numeral(alloc, text, "number", 64, y, step)?;
     let words = words_of(alloc, row)?;
-    put_words(text, "step", x, y, words.as_bytes())
+    put_left(text, is_wide(columns), y, words.as_bytes())?;
+    put_words(text, "step", words_left(columns) + 8, y, words.as_bytes())
+}
+
+/// Appends the text of a step at the left of the columns, where there are many.
+fn put_left(text: &mut String, wide: bool, y: u64, words: &[u8]) -> Result<(), AllocError>
+    ensures { OnOk result
+        (string_bytes text.new ≡ string_bytes text.old ++ left_text wide y words.now) }
+{
+    if !wide {
+        return Ok(());
+    }
+    put_words(text, "left", 24, y, words)
 }
 
 /// Appends a number as a text.
@@ -130,13 +144,13 @@ pub(crate) fn put_numeral(
     class: &str,
     x: u64,
     y: u64,
-    number: u16,
+    number: u64,
 ) -> Result<(), AllocError>
     ensures { OnOk result (string_bytes text.new
         ≡ string_bytes text.old ++ words_text class.now x y (decimal number)) }
 {
     let mut numeral = String::new(alloc);
-    put_count(&mut numeral, u64::from(number))?;
+    put_count(&mut numeral, number)?;
     put_words(text, class, x, y, numeral.as_bytes())
 }
 

@@ -1,12 +1,13 @@
 //! Draws stretches of columns: lanes, and the boxes of transactions.
 ghost use Rattle.std.specs.Prelude.{◌≡◌, ◌≤◌, ◌++◌, OnOk, string_bytes};
 ghost use Rattle.std.specs.List.{flat_map};
-ghost use Rattle.tx_picture.specs.Stretches.{bar_text, lane_text, last_row, strip_class, strip_text};
+ghost use Rattle.tx_picture.specs.Stretches.{bar_text, box_text, lane_text, last_row, starter_text, strip_class, strip_text, torn_text};
 
 use crate::elements::{Numbers, Shape, put_shape};
 use crate::layout::{x_of, y_of};
 use crate::spans::{End, Span};
-use std::alloc::AllocError;
+use crate::steps::put_numeral;
+use std::alloc::{AllocError, Global};
 use tx_base::Pid;
 
 /// Appends the stretches in which processes are members of transactions. The last row is that of the
@@ -31,10 +32,65 @@ fn put_strip(text: &mut String, columns: &[Pid], last: u16, strip: &Span) -> Res
     ensures { OnOk result (string_bytes text.new
         ≡ string_bytes text.old ++ strip_text columns.now last strip.now) }
 {
-    let left = x_of(columns, strip.process) - 22;
-    let top = y_of(strip.from) - 11;
-    let rows = last_row(last, strip.end).saturating_sub(strip.from);
-    let numbers = Numbers(left, top, 44, 24 * u64::from(rows) + 22);
+    let x = x_of(columns, strip.process);
+    put_box(text, x, last, strip)?;
+    put_torn(text, x, strip.from)
+}
+
+/// Appends the numbers of the transactions' starters, each at the top of a box.
+pub(crate) fn put_starters(
+    alloc: Global,
+    text: &mut String,
+    columns: &[Pid],
+    strips: &[Span],
+) -> Result<(), AllocError>
+    ensures { OnOk result (string_bytes text.new
+        ≡ string_bytes text.old ++ flat_map (starter_text columns.now) strips.now) }
+{
+    for i in 0..strips.len() {
+        put_starter(alloc, text, columns, &strips[i])?;
+    }
+    Ok(())
+}
+
+/// Appends the number of a transaction's starter, at the top of a box.
+fn put_starter(
+    alloc: Global,
+    text: &mut String,
+    columns: &[Pid],
+    strip: &Span,
+) -> Result<(), AllocError>
+    ensures { OnOk result
+        (string_bytes text.new ≡ string_bytes text.old ++ starter_text columns.now strip.now) }
+{
+    let x = x_of(columns, strip.process) - 20;
+    let y = y_of(strip.from) - 2;
+    put_numeral(alloc, text, "starter", x, y, u64::from(strip.holder.0))
+}
+
+/// Breaks the top of a box that was there before the first row.
+fn put_torn(text: &mut String, x: u64, from: u16) -> Result<(), AllocError>
+    requires low { 22 ≤ x }
+    requires high { x ≤ 100000 }
+    ensures { OnOk result
+        (string_bytes text.new ≡ string_bytes text.old ++ torn_text x from) }
+{
+    if from != 0 {
+        return Ok(());
+    }
+    let top = y_of(0) - 11;
+    put_shape(text, Shape::Line, "torn", Numbers(x - 22, top, x + 22, top))
+}
+
+/// Appends the box of a stretch, in a column with that middle.
+fn put_box(text: &mut String, x: u64, last: u16, strip: &Span) -> Result<(), AllocError>
+    requires { 22 ≤ x }
+    ensures { OnOk result
+        (string_bytes text.new ≡ string_bytes text.old ++ box_text x last strip.now) }
+{
+    let first = y_of(strip.from);
+    let high = y_of(last_row(last, strip.end)).saturating_sub(first) + 22;
+    let numbers = Numbers(x - 22, first - 11, 44, high);
     put_shape(text, Shape::Rect, strip_class(strip.end), numbers)
 }
 

@@ -3,12 +3,14 @@
 //! in grey too.
 
 /// What stands in every picture before all else: the styles of the classes, the fills, the heads of
-/// arrows, the white page, and the heading of the columns.
+/// arrows, and the white page.
 pub(crate) const STYLE: &str = "
 <style>
 text{font:13px monospace;fill:#000}
 .number{fill:#555;text-anchor:end}
-.head{font-weight:bold;text-anchor:middle}
+.left{text-anchor:end}
+.starter{font-size:10px;font-weight:bold;stroke:#fff;stroke-width:3;paint-order:stroke}
+.head{font-weight:bold;text-anchor:middle;stroke:#fff;stroke-width:4;paint-order:stroke}
 line{stroke:#000;stroke-width:2}
 .guide{stroke:#999;stroke-width:1;stroke-dasharray:1 4}
 .end{stroke-width:3}
@@ -25,6 +27,7 @@ line{stroke:#000;stroke-width:2}
 .committed{fill:url(#committed);stroke:#0072b2;stroke-width:2}
 .aborted{fill:url(#aborted);stroke:#d55e00;stroke-width:2;stroke-dasharray:6 3}
 .open{fill:#eee;stroke:#555;stroke-width:2;stroke-dasharray:2 3}
+.torn{stroke:#fff;stroke-width:4;stroke-dasharray:5 4}
 </style>
 <defs><pattern id=\"committed\" width=\"8\" height=\"8\" patternUnits=\"userSpaceOnUse\"><rect width=\"8\" height=\"8\" fill=\"#e1f0fa\"/>
 <path d=\"M-2,2 L2,-2 M0,8 L8,0 M6,10 L10,6\" stroke=\"#56b4e9\"/>
@@ -41,7 +44,6 @@ line{stroke:#000;stroke-width:2}
 </marker>
 </defs>
 <rect width=\"100%\" height=\"100%\" fill=\"#fff\"/>
-<text class=\"number\" x=\"64\" y=\"28\">process</text>
 ";
 
 /// What the boxes, the marks and the arrows mean.

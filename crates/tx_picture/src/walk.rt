@@ -23,23 +23,22 @@ use crate::transfers::transfer_of;
 use std::alloc::{AllocError, Global};
 use tx_base::{Call, Pid, Reply, Step};
 use tx_core::Machine;
-use tx_lines::{Fault, Schedule};
+use tx_lines::{Fault, Header};
 use tx_live::Inverse;
 use tx_script::boot;
 
-/// Makes the steps of a schedule, and notes what there is to draw of them. It may have 200 steps.
+/// Makes the steps of a schedule, and notes what there is to draw of them.
 ///
 /// The only fault is `NoMemory`.
-pub fn draw(alloc: Global, schedule: &Schedule) -> Result<Drawing, Fault>
-    requires fits { FitsHeader schedule.now.header }
-    requires few { length schedule.now.steps.items ≤ 200 }
-    ensures drawn { IfOk result (λ drawing.
-        drawn_as drawing ≡ drawing_of schedule.now.header schedule.now.steps.items) }
+pub fn draw(alloc: Global, header: Header, steps: &[Step]) -> Result<Drawing, Fault>
+    requires fits { FitsHeader header }
+    requires few { length steps.now ≤ 4096 }
+    ensures drawn { IfOk result (λ drawing. drawn_as drawing ≡ drawing_of header steps.now) }
     ensures fault { IfErr result (λ fault. fault ≡ NoMemory) }
 {
-    let mut machine = boot(alloc, schedule.header)?;
+    let mut machine = boot(alloc, header)?;
     let mut drawing = first_drawing(alloc, &machine)?;
-    draw_steps(alloc, &mut drawing, &mut machine, schedule.steps.as_slice())?;
+    draw_steps(alloc, &mut drawing, &mut machine, steps)?;
     Ok(drawing)
 }
 
@@ -54,6 +53,7 @@ fn first_drawing(alloc: Global, machine: &Machine) -> Result<Drawing, AllocError
     let mut lanes = Vec::new(alloc);
     follow(&mut lanes, machine, Stretch::Lane, start)?;
     Ok(Drawing {
+        before: 0,
         rows: Vec::new(alloc),
         lanes,
         strips: Vec::new(alloc),
@@ -69,7 +69,7 @@ fn draw_steps(
     machine: &mut Machine,
     steps: &[Step],
 ) -> Result<(), Fault>
-    requires { length steps.now ≤ 200 }
+    requires { length steps.now ≤ 4096 }
     ensures drawn { OnOk result
         ((start : State) (earlier : List Accepted) → IsAfter start earlier machine.old →
         drawn_as drawing.new ≡ drawn_from start earlier steps.now 1 (drawn_as drawing.old)) }

@@ -2,31 +2,29 @@
 ghost use Rattle.std.specs.Prelude.{◌≡◌, ◌≤◌, ◌+◌, ◌++◌, IfOk, OnOk, length, string_bytes};
 ghost use Rattle.std.specs.List.{flat_map};
 ghost use Rattle.tx_picture.specs.Drawn.{drawn_as};
-ghost use Rattle.tx_picture.specs.Svg.{attribute};
-ghost use Rattle.tx_picture.specs.Pictures.{between, drawn_text, head_text, height_of, inner_text, legend_text, longer, meanings_text, moved_text, picture_in, picture_of};
-ghost use Rattle.tx_picture.specs.Pictures.{seen_text, size_text, style_text, widest, width_of};
+ghost use Rattle.tx_picture.specs.Pictures.{between, body_text, drawn_text, head_text, heads_text, heads_upto, height_of, inner_text, legend_text, longer, margin_of, meanings_text, moved_text};
+ghost use Rattle.tx_picture.specs.Pictures.{picture_in, picture_of, point_text, seen_text, size_text, style_text, widest, width_of, words_width};
 
 use crate::arrows::put_passages;
 use crate::columns::columns_of;
 use crate::drawing::Drawing;
-use crate::elements::{put_number, put_word};
-use crate::layout::{words_left, x_of, y_of};
-use crate::rows::Row;
+use crate::elements::{put_number, put_word, put_words};
+use crate::layout::{heads_above, heads_y, is_wide, words_left, x_of, y_of};
+use crate::rows::{Extent, Row};
 use crate::steps::{put_numeral, put_rows, words_of};
-use crate::stretches::{put_lanes, put_strips};
+use crate::stretches::{put_lanes, put_starters, put_strips};
 use crate::styles::{LEGEND, STYLE};
 use std::alloc::{AllocError, Global};
 use tx_base::Pid;
 use tx_lines::{put, put_count};
 
-/// The picture of what there is to draw of a schedule of at most 200 steps. The only error is that a
-/// growth of memory was refused.
+/// The picture of what there is to draw of a schedule. The only error is that a growth of memory was
+/// refused.
 pub(crate) fn picture_of(alloc: Global, drawing: &Drawing) -> Result<String, AllocError>
-    requires { length drawing.now.rows.items ≤ 200 }
+    requires { length drawing.now.rows.items ≤ 4096 }
     ensures { IfOk result (λ text. string_bytes text ≡ picture_of (drawn_as drawing.now)) }
 {
-    let rows = drawing.rows.as_slice();
-    let columns = columns_of(alloc, drawing.lanes.as_slice(), rows)?;
+    let columns = columns_of(alloc, drawing)?;
     let mut text = String::new(alloc);
     put_picture(alloc, &mut text, columns.as_slice(), drawing)?;
     Ok(text)
@@ -39,16 +37,16 @@ fn put_picture(
     columns: &[Pid],
     drawing: &Drawing,
 ) -> Result<(), AllocError>
-    requires { length drawing.now.rows.items ≤ 200 }
+    requires { length drawing.now.rows.items ≤ 4096 }
     ensures { OnOk result (string_bytes text.new
         ≡ string_bytes text.old ++ picture_in columns.now (drawn_as drawing.now)) }
 {
     let rows = drawing.rows.as_slice();
-    let width = width_of(alloc, columns, rows)?;
+    let most = widest(alloc, rows)?;
     put(text, "<svg")?;
-    put_size(text, width, y_of(rows.len() as u16) + 88)?;
+    put_size(text, width_of(columns, most), y_of(rows.len() as u16) + 88)?;
     put(text, ">")?;
-    put_inner(alloc, text, columns, drawing)?;
+    put_inner(alloc, text, columns, margin_of(columns, most), drawing)?;
     put(text, "</svg>\n")
 }
 
@@ -92,21 +90,42 @@ fn put_inner(
     alloc: Global,
     text: &mut String,
     columns: &[Pid],
+    margin: u64,
     drawing: &Drawing,
 ) -> Result<(), AllocError>
-    requires { length drawing.now.rows.items ≤ 200 }
+    requires { length drawing.now.rows.items ≤ 4096 }
     ensures { OnOk result (string_bytes text.new
-        ≡ string_bytes text.old ++ inner_text columns.now (drawn_as drawing.now)) }
+        ≡ string_bytes text.old ++ inner_text columns.now margin (drawn_as drawing.now)) }
 {
-    let last = drawing.rows.len() as u16;
     put_style(text)?;
-    put_heads(alloc, text, columns)?;
+    put_body(alloc, text, columns, margin, drawing)?;
+    put_legend(text, y_of(drawing.rows.len() as u16) + 32)
+}
+
+/// Appends what there is to draw, and the numbers of the processes in front of it, moved to the right.
+#[tactic(auto, unfolding(crate::specs::Pictures::body_text))]
+fn put_body(
+    alloc: Global,
+    text: &mut String,
+    columns: &[Pid],
+    margin: u64,
+    drawing: &Drawing,
+) -> Result<(), AllocError>
+    requires { length drawing.now.rows.items ≤ 4096 }
+    ensures { OnOk result (string_bytes text.new
+        ≡ string_bytes text.old ++ body_text columns.now margin (drawn_as drawing.now)) }
+{
+    let heads = heads_above(drawing.rows.len() as u16) + 1;
+    put(text, "<g")?;
+    put_moved(text, margin, 0)?;
+    put(text, ">")?;
     put_drawn(alloc, text, columns, drawing)?;
-    put_legend(text, y_of(last) + 32)
+    put_lines_of_heads(alloc, text, columns, heads)?;
+    put(text, "</g>\n")
 }
 
 /// Appends what there is to draw: the boxes of transactions behind all else, then the processes, what
-/// goes through pipes, and the steps.
+/// goes through pipes, and the steps, and in front of them the numbers of the boxes.
 #[tactic(auto, unfolding(crate::specs::Pictures::drawn_text))]
 fn put_drawn(
     alloc: Global,
@@ -114,41 +133,78 @@ fn put_drawn(
     columns: &[Pid],
     drawing: &Drawing,
 ) -> Result<(), AllocError>
-    requires { length drawing.now.rows.items ≤ 200 }
+    requires { length drawing.now.rows.items ≤ 4096 }
     ensures { OnOk result (string_bytes text.new
         ≡ string_bytes text.old ++ drawn_text columns.now (drawn_as drawing.now)) }
 {
     let rows = drawing.rows.as_slice();
     let strips = drawing.strips.as_slice();
     let last = rows.len() as u16;
+    let extent = Extent {
+        before: drawing.before,
+        last,
+    };
     put_strips(text, columns, last, strips)?;
     put_lanes(text, columns, last, drawing.lanes.as_slice())?;
-    put_passages(text, columns, drawing.passages.as_slice())?;
-    put_rows(alloc, text, columns, strips, rows)
+    put_passages(alloc, text, columns, drawing.passages.as_slice())?;
+    put_rows(alloc, text, columns, strips, extent, rows)?;
+    put_starters(alloc, text, columns, strips)
 }
 
-/// Appends the numbers of the processes, above their columns.
-fn put_heads(alloc: Global, text: &mut String, columns: &[Pid]) -> Result<(), AllocError>
-    ensures { OnOk result (string_bytes text.new
-        ≡ string_bytes text.old ++ flat_map (head_text columns.now) columns.now) }
+/// Appends so many lines of the numbers of the processes, one above each 40 rows.
+fn put_lines_of_heads(
+    alloc: Global,
+    text: &mut String,
+    columns: &[Pid],
+    count: u16,
+) -> Result<(), AllocError>
+    ensures { OnOk result
+        (string_bytes text.new ≡ string_bytes text.old ++ heads_upto columns.now count) }
 {
-    for i in 0..columns.len() {
-        put_head(alloc, text, columns, columns[i])?;
+    for before in 0..count {
+        put_line_of_heads(alloc, text, columns, heads_y(before))?;
     }
     Ok(())
 }
 
-/// Appends the number of a process, above its column.
+/// Appends a line of the numbers of the processes, each in its column, with what they are.
+fn put_line_of_heads(
+    alloc: Global,
+    text: &mut String,
+    columns: &[Pid],
+    y: u64,
+) -> Result<(), AllocError>
+    ensures { OnOk result
+        (string_bytes text.new ≡ string_bytes text.old ++ heads_text columns.now y) }
+{
+    put_words(text, "number", 64, y, b"process")?;
+    put_heads(alloc, text, columns, y)
+}
+
+/// Appends the numbers of the processes, each in its column.
+fn put_heads(alloc: Global, text: &mut String, columns: &[Pid], y: u64) -> Result<(), AllocError>
+    ensures { OnOk result (string_bytes text.new
+        ≡ string_bytes text.old ++ flat_map (head_text columns.now y) columns.now) }
+{
+    for i in 0..columns.len() {
+        put_head(alloc, text, columns, y, columns[i])?;
+    }
+    Ok(())
+}
+
+/// Appends the number of a process, in its column.
 fn put_head(
     alloc: Global,
     text: &mut String,
     columns: &[Pid],
+    y: u64,
     process: Pid,
 ) -> Result<(), AllocError>
     ensures { OnOk result (string_bytes text.new
-        ≡ string_bytes text.old ++ head_text columns.now process) }
+        ≡ string_bytes text.old ++ head_text columns.now y process) }
 {
-    put_numeral(alloc, text, "head", x_of(columns, process), 28, process.0)
+    let number = u64::from(process.0);
+    put_numeral(alloc, text, "head", x_of(columns, process), y, number)
 }
 
 /// Appends the styles.
@@ -167,30 +223,23 @@ fn put_meanings(text: &mut String) -> Result<(), AllocError>
     put(text, LEGEND)
 }
 
-/// Appends the attribute that says where the legend stands.
+/// Appends the attribute that says to where it is moved.
 #[tactic(auto, unfolding(crate::specs::Pictures::moved_text))]
-fn put_moved(text: &mut String, y: u64) -> Result<(), AllocError>
-    ensures { OnOk result (string_bytes text.new ≡ string_bytes text.old ++ moved_text y) }
+fn put_moved(text: &mut String, x: u64, y: u64) -> Result<(), AllocError>
+    ensures { OnOk result (string_bytes text.new ≡ string_bytes text.old ++ moved_text x y) }
 {
-    put_placed(text, "transform", "translate(72,", y, ")")
+    put(text, " transform=\"")?;
+    put_point(text, x, y)?;
+    put(text, "\"")
 }
 
-/// Appends an attribute that is a number between two texts.
-fn put_placed(
-    text: &mut String,
-    name: &str,
-    front: &str,
-    number: u64,
-    back: &str,
-) -> Result<(), AllocError>
-    ensures { OnOk result (string_bytes text.new
-        ≡ string_bytes text.old ++ attribute name.now (between front.now number back.now)) }
+/// Appends a place to which something is moved.
+#[tactic(auto, unfolding(crate::specs::Pictures::point_text))]
+fn put_point(text: &mut String, x: u64, y: u64) -> Result<(), AllocError>
+    ensures { OnOk result (string_bytes text.new ≡ string_bytes text.old ++ point_text x y) }
 {
-    put(text, " ")?;
-    put(text, name)?;
-    put(text, "=\"")?;
-    put_between(text, front, number, back)?;
-    put(text, "\"")
+    put_between(text, "translate(", x, ",")?;
+    put_between(text, "", y, ")")
 }
 
 /// Appends what the boxes, the marks and the arrows mean.
@@ -199,18 +248,36 @@ fn put_legend(text: &mut String, y: u64) -> Result<(), AllocError>
     ensures { OnOk result (string_bytes text.new ≡ string_bytes text.old ++ legend_text y) }
 {
     put(text, "<g")?;
-    put_moved(text, y)?;
+    put_moved(text, 72, y)?;
     put(text, ">")?;
     put_meanings(text)?;
     put(text, "</g>\n")
 }
 
 /// How wide the picture is: the legend has room in each.
-fn width_of(alloc: Global, columns: &[Pid], rows: &[Row]) -> Result<u64, AllocError>
-    ensures { IfOk result (λ width. width ≡ width_of columns.now rows.now) }
+fn width_of(columns: &[Pid], most: u64) -> u64
+    ensures { result ≡ width_of columns.now most }
 {
-    let widest = widest(alloc, rows)?;
-    Ok(longer(480, words_left(columns) + 8 * widest.min(2000) + 24))
+    let right = words_left(columns) + words_width(most) + 24;
+    longer(480, margin_of(columns, most) + right)
+}
+
+/// How far what is drawn is moved to the right, for the texts to its left.
+fn margin_of(columns: &[Pid], most: u64) -> u64
+    ensures { result ≡ margin_of columns.now most }
+{
+    if is_wide(columns) {
+        words_width(most)
+    } else {
+        0
+    }
+}
+
+/// How wide the texts are, of which the longest has so many characters.
+fn words_width(most: u64) -> u64
+    ensures { result ≡ words_width most }
+{
+    8 * most.min(2000)
 }
 
 /// How many characters the longest text of a step has.

@@ -1,7 +1,7 @@
 -- The words of the program's command line.
 use Rattle.std.specs.Char.{is_ascii_digit}
 use Rattle.std.specs.Str.{bytes_eq}
-use Rattle.std.specs.Prelude.{◌≡◌, ◌≢◌, ◌==◌, ◌&&◌, ◌++◌, ◌⊎◌, if◌then◌else◌, Bool, false, None, ℕ, List, [], ◌∷◌, Option, Some, codes, fold, is_some, map, not, option_and_then, option_map, pos, true}
+use Rattle.std.specs.Prelude.{◌≡◌, ◌≢◌, ◌≤◌, ◌==◌, ◌&&◌, ◌++◌, ◌⊎◌, if◌then◌else◌, Bool, false, None, ℕ, List, [], ◌∷◌, Option, Some, codes, fold, is_some, map, not, option_and_then, option_map, pos, true}
 use Rattle.clap.specs.Simple.{Shape, new_rule, new_shape, on_top}
 use Rattle.clap.specs.Walk.{Rule}
 use Rattle.clap.specs.Words.{App, Row, Text, new_app, one_of, subcommand_of, with_subcommand}
@@ -12,7 +12,7 @@ use Rattle.tx_check.specs.declared.readers.Reader.TheVariants as readers
 use Rattle.tx_script.specs.declared.forms.Form.{Form}
 use Rattle.tx_script.specs.declared.forms.Form.TheVariants as forms
 use Rattle.txos.specs.declared.words.Asked.{Asked}
-use Rattle.txos.specs.declared.words.Asked.TheVariants.{Check, Debug, Expect, Explain, HalfRun, Json, JsonRun, NoReader, Picture, Plain, Replay, Run, Shell, Version}
+use Rattle.txos.specs.declared.words.Asked.TheVariants.{Check, Debug, Expect, Explain, HalfRun, Json, JsonRun, NoExcerpt, NoReader, Picture, Plain, Replay, Run, Shell, Version}
 
 -- an option whose value is a number from 1 to that one, and one that is required
 abbrev pub number_option : Text → ℕ → Rule
@@ -43,6 +43,10 @@ shell_line = record (new_shape (codes "shell")) { rules = flag (codes "json") �
 abbrev pub json_line : Shape
 json_line = record (new_shape (codes "json")) { rules = number_option (codes "workers") 16 ∷ number_option (codes "turns") 10000 ∷ [] }
 
+-- the command that draws a schedule, with the first and the last step of an excerpt, of which both may be missing
+abbrev pub picture_line : Shape
+picture_line = record (new_shape (codes "picture")) { rules = number_option (codes "from") 4096 ∷ number_option (codes "to") 4096 ∷ [] }
+
 -- the command that runs a program
 abbrev pub run_line : Shape
 run_line = record (new_shape (codes "run")) { rules = required_option (codes "workers") 16 ∷ required_option (codes "turns") 10000 ∷ [] }
@@ -57,7 +61,7 @@ explain_line = record (new_shape (codes "explain")) { rules = new_rule (codes "w
 
 -- the commands, in the order in which they are added: those that answer a schedule
 abbrev pub schedule_commands : List Shape
-schedule_commands = text_line (codes "replay") ∷ text_line (codes "debug") ∷ json_line ∷ text_line (codes "picture") ∷ text_line (codes "expect") ∷ []
+schedule_commands = text_line (codes "replay") ∷ text_line (codes "debug") ∷ json_line ∷ picture_line ∷ text_line (codes "expect") ∷ []
 
 -- those that make steps as they come
 abbrev pub run_commands : List Shape
@@ -98,7 +102,8 @@ name_of Debug = codes "debug"
 name_of Json = codes "json"
 name_of (JsonRun crew) = codes "json"
 name_of HalfRun = codes "json"
-name_of Picture = codes "picture"
+name_of (Picture excerpt) = codes "picture"
+name_of NoExcerpt = codes "picture"
 name_of Expect = codes "expect"
 name_of (Shell form) = codes "shell"
 name_of (Run crew) = codes "run"
@@ -122,6 +127,13 @@ gives_workers entered = is_some (text_in (codes "workers") entered)
 
 abbrev pub gives_turns : Option (Text × List Row) → Bool
 gives_turns entered = is_some (text_in (codes "turns") entered)
+
+-- whether they give an excerpt's first step, and its last one
+abbrev pub gives_from : Option (Text × List Row) → Bool
+gives_from entered = is_some (text_in (codes "from") entered)
+
+abbrev pub gives_to : Option (Text × List Row) → Bool
+gives_to entered = is_some (text_in (codes "to") entered)
 
 -- the command that a word names, by which a text can be checked
 abbrev pub reader_named : Text → Option Reader
@@ -148,12 +160,15 @@ IsFormOf said forms.Text = said ≢ Some (codes "true")
 IsFormOf said forms.Json = (said ≢ None) × (said ≢ Some (codes "false"))
 
 -- the form is the one that the flag of the words says; and the JSON of a run is asked for where both of its numbers are given, and that of a schedule
--- where neither is; and a text is checked as that of its kind is read where no command is given
+-- where neither is; a picture begins with step 1 where no first step is given, and goes to the last where none is given, and its first step is not behind its last; and a text is
+-- checked as that of its kind is read where no command is given
 abbrev pub IsAskedIn : Option (Text × List Row) → Asked → Type 0
 IsAskedIn entered (Shell form) = IsFormOf (text_in (codes "json") entered) form
 IsAskedIn entered Json = (gives_workers entered ≡ false) × (gives_turns entered ≡ false)
 IsAskedIn entered (JsonRun crew) = (gives_workers entered ≡ true) × (gives_turns entered ≡ true)
 IsAskedIn entered HalfRun = gives_workers entered ≢ gives_turns entered
+IsAskedIn entered (Picture excerpt) = (excerpt.from ≤ excerpt.to) × (gives_from entered ≡ false → excerpt.from ≡ 1) × (gives_to entered ≡ false → excerpt.to ≡ 4096)
+IsAskedIn entered NoExcerpt = (gives_from entered ≡ true) ⊎ (gives_to entered ≡ true)
 IsAskedIn entered (Check reader) = gives_reader entered ≡ not (is_any reader)
 IsAskedIn entered (NoReader word) = gives_reader entered ≡ true
 IsAskedIn entered asked = Unit {0}

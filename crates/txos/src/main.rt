@@ -29,7 +29,9 @@ use tx_picture::picture;
 use tx_plain::write_plain;
 use tx_script::{Form, debug, replay, write_json};
 use tx_shell::{Console, Shell, TalkFault, talk};
-use words::{Asked, CHECK_USAGE, JSON_USAGE, VERSION_LINES, number_asked, read_words};
+use words::{
+    Asked, CHECK_USAGE, JSON_USAGE, PICTURE_USAGE, VERSION_LINES, number_asked, read_words,
+};
 
 /// The status of a fault.
 const FAULTY: u8 = 1;
@@ -103,7 +105,8 @@ where
         Asked::HalfRun => half_run(rt),
         Asked::Shell(form) => status_of(rt, converse(rt, alloc, form, prompts)),
         Asked::Run(crew) => { status_of(rt, answer_run(rt, alloc, source, sink, crew, Form::Text)) }
-        Asked::Picture => status_of(rt, picture(alloc, source, sink)),
+        Asked::Picture(excerpt) => status_of(rt, picture(alloc, excerpt, source, sink)),
+        Asked::NoExcerpt => no_excerpt(rt),
         Asked::Expect => status_of_check(rt, expect(alloc, source, sink)),
         Asked::Check(Reader::Any) => status_of_check(rt, check_too(alloc, source, sink)),
         Asked::Check(reader) => status_of_check(rt, check_for(alloc, reader, source, sink)),
@@ -178,6 +181,16 @@ fn half_run(rt: &impl Eprint) -> ExitCode
 {
     let _ = eprintln!(rt; "error: json takes --workers and --turns together, or neither\n");
     let _ = eprintln!(rt; "Usage: {JSON_USAGE}\n");
+    let _ = eprintln!(rt; "For more information, try '--help'.");
+    ExitCode::from(UNREAD)
+}
+
+/// Says that an excerpt's first step is behind its last one, in the form of what clap says.
+fn no_excerpt(rt: &impl Eprint) -> ExitCode
+    ensures { exit_status result ≡ UNREAD }
+{
+    let _ = eprintln!(rt; "error: the step of --from must not be behind that of --to\n");
+    let _ = eprintln!(rt; "Usage: {PICTURE_USAGE}\n");
     let _ = eprintln!(rt; "For more information, try '--help'.");
     ExitCode::from(UNREAD)
 }

@@ -6,12 +6,13 @@ ghost use Rattle.clap.specs.Walk.{rule_of};
 ghost use Rattle.clap.specs.declared.builder.command.Command.TheViews.{out-Command};
 ghost use Rattle.txos.specs.CommandLine.{asked_number, begins_negative, check_line, command_line, explain_line, is_any, json_line};
 ghost use Rattle.txos.specs.CommandLine.{IsAskedIn, IsFormOf, name_of, named, number_behind, number_option, reader_named, run_line};
-ghost use Rattle.txos.specs.CommandLine.{command_names, run_commands, schedule_commands, shell_line, text_commands, text_in, text_line, top_line, SomeOneOf};
+ghost use Rattle.txos.specs.CommandLine.{command_names, picture_line, run_commands, schedule_commands, shell_line, text_commands, text_in, text_line, top_line, SomeOneOf};
 
 use clap::error::Error;
 use clap::{Arg, ArgAction, ArgMatches, Command, value_parser};
 use std::alloc::{AllocError, Global};
 use tx_check::Reader;
+use tx_picture::Excerpt;
 use tx_script::Form;
 
 /// The version of the program.
@@ -27,6 +28,9 @@ pub const CHECK_USAGE: &str = "txos check [command] < FILE";
 /// How `json` is called.
 pub const JSON_USAGE: &str = "txos json [OPTIONS] < FILE";
 
+/// How `picture` is called.
+pub const PICTURE_USAGE: &str = "txos picture [OPTIONS] < FILE";
+
 /// What the program is asked to do.
 #[derive(Clone, Copy)]
 pub enum Asked<'a> {
@@ -40,8 +44,10 @@ pub enum Asked<'a> {
     JsonRun(Crew),
     /// To say that JSON of a run wants both of its numbers, of which the words give one.
     HalfRun,
-    /// To read a schedule, make its steps, and write a picture of them.
-    Picture,
+    /// To read a schedule, make its steps, and write a picture of an excerpt of them.
+    Picture(Excerpt),
+    /// To say that an excerpt's first step is behind its last one.
+    NoExcerpt,
     /// To read a schedule, make its steps, and write which replies are not as its text expects.
     Expect,
     /// To read steps and commands line by line, and answer each before the next, in that form.
@@ -107,7 +113,7 @@ fn asked_of<'a>(matches: &ArgMatches<'a>) -> Result<Asked<'a>, AllocError>
         Some("replay") => Ok(Asked::Replay),
         Some("debug") => Ok(Asked::Debug),
         Some("json") => json_of(matches),
-        Some("picture") => Ok(Asked::Picture),
+        Some("picture") => Ok(excerpt_of(matches)),
         Some("expect") => Ok(Asked::Expect),
         Some("shell") => Ok(Asked::Shell(form_of(matches))),
         Some("run") => Ok(Asked::Run(crew_of(matches, "run")?)),
@@ -194,6 +200,34 @@ fn is_given(matches: &ArgMatches<'_>, command: &str, option: &str) -> bool
     given.get_str(option).is_some()
 }
 
+/// What the words of `picture` ask for.
+fn excerpt_of<'a>(matches: &ArgMatches<'_>) -> Asked<'a>
+    requires { subcommand_name_of matches.now ≡ Some (codes "picture") }
+    ensures name { name_of result ≡ codes "picture" }
+    ensures asked { IsAskedIn (subcommand_rows_of matches.now) result }
+{
+    let from = step_of(matches, "from", 1);
+    let to = step_of(matches, "to", Excerpt::WHOLE.to);
+    if to < from {
+        return Asked::NoExcerpt;
+    }
+    Asked::Picture(Excerpt { from, to })
+}
+
+/// The step that an option of `picture` says, or that other one.
+fn step_of(matches: &ArgMatches<'_>, option: &str, other: u16) -> u16
+    requires { subcommand_name_of matches.now ≡ Some (codes "picture") }
+    ensures { is_some (text_in option.now (subcommand_rows_of matches.now)) ≡ false → result ≡ other }
+{
+    if !is_given(matches, "picture", option) {
+        return other;
+    }
+    let Some(given) = matches.subcommand_matches("picture") else {
+        unreachable!()
+    };
+    given.get_one::<u16>(option).unwrap_or(other)
+}
+
 /// What the words of `check` ask for.
 fn check_of<'a>(matches: &ArgMatches<'a>) -> Asked<'a>
     requires { subcommand_name_of matches.now ≡ Some (codes "check") }
@@ -260,7 +294,7 @@ fn add_schedules<'a>(alloc: Global, line: Command<'a>) -> Result<Command<'a>, Al
         .subcommand(text_command(alloc, "replay", REPLAY)?)?
         .subcommand(text_command(alloc, "debug", DEBUG)?)?
         .subcommand(json_command(alloc)?)?
-        .subcommand(text_command(alloc, "picture", PICTURE)?)?
+        .subcommand(picture_command(alloc)?)?
         .subcommand(text_command(alloc, "expect", EXPECT)?)?;
     Ok(command)
 }
@@ -328,7 +362,7 @@ const JSON: Told = Told {
 
 const PICTURE: Told = Told {
     about: "Reads a schedule from standard input, and writes a picture of it in SVG",
-    usage: "txos picture < FILE",
+    usage: PICTURE_USAGE,
     example: "Example: txos picture < examples/first.txos > first.svg",
 };
 
@@ -418,6 +452,27 @@ fn json_command<'a>(alloc: Global) -> Result<Command<'a>, AllocError>
     );
     let command = told_command(alloc, "json", JSON).arg(workers)?;
     command.arg(turns)
+}
+
+/// The command that draws a schedule, with the two numbers of an excerpt.
+fn picture_command<'a>(alloc: Global) -> Result<Command<'a>, AllocError>
+    ensures shape { IfOk result (λ command. (app_of command).top ≡ picture_line) }
+    ensures local { IfOk result (λ command. (out-Command command).has_globals ≡ false) }
+{
+    let from = step_option(alloc, "from").help("The first step that is drawn, 1 to 4096");
+    let to = step_option(alloc, "to").help("The last step that is drawn, 1 to 4096");
+    let command = told_command(alloc, "picture", PICTURE).arg(from)?;
+    command.arg(to)
+}
+
+/// An option of that name that says a step.
+fn step_option<'a>(alloc: Global, name: &'a str) -> Arg<'a>
+    ensures rule { rule_of result ≡ number_option name.now 4096 }
+    ensures local { result.global ≡ false }
+{
+    Arg::new(alloc, name)
+        .long(name)
+        .value_parser(value_parser!(u16).range(1..=4096))
 }
 
 /// The command that checks a text, with the command that is to read it, which may be missing.

@@ -58,8 +58,9 @@ json: writes what a text is answered, as lines of JSON.
         also: &[],
         text: "\
 picture: draws what the steps of a schedule did, as a picture in SVG.
-  form     txos picture < TEXT
-  TEXT     a schedule of 200 steps at most
+  form     txos picture [--from K] [--to L] < TEXT
+  TEXT     a schedule
+  K, L     the first and the last step that is drawn, 1 to 4096
   writes   a column for each process and a row for each step; a transaction is
            a shaded box over its members
   example  txos picture < examples/first.txos

@@ -1,7 +1,11 @@
-use Rattle.std.proofs.Common.{◌≡◌, ◌++◌, take, string_bytes}
-use Rattle.std.specs.List.{flat_map}
-use Rattle.tx_picture.specs.Arrows.{passage_text}
+use Rattle.std.proofs.Common.{◌≡◌, [], ◌++◌, take, drop, string_bytes}
+use Rattle.tx_picture.proofs.Tallies.{IsTally}
+use Rattle.tx_picture.specs.Arrows.{enters, leaves, passages_text}
 use Rattle.tx_picture.proofs.arrows.put_passages.Given as goal
 
 abbrev pub invariant-loop-i : goal.invariant-loop-i
-invariant-loop-i l = string_bytes l.text ≡ string_bytes l.initial.text ++ flat_map (passage_text l.columns) (take l.i l.passages)
+invariant-loop-i l = record {
+  text : string_bytes l.initial.text ++ passages_text l.columns [] l.passages ≡ string_bytes l.text ++ passages_text l.columns (take l.i l.passages) (drop l.i l.passages);
+  leaving : IsTally leaves (take l.i l.passages) l.leaving;
+  entering : IsTally enters (take l.i l.passages) l.entering;
+}

@@ -5,8 +5,8 @@ use Rattle.tx_picture.proofs.whole.put_heads.Goals as goal
 
 pub loop-i-preserved : goal.loop-i-preserved
 loop-i-preserved c =
-    each_more (head_text c.args.columns.now) c.args.columns.now c.loop-i.i _ (string_bytes c.args.text.now) (string_bytes c.loop-i.text) (string_bytes c.put_head.new.text) c.loop-i-test.true
+    each_more (head_text c.args.columns.now c.args.y) c.args.columns.now c.loop-i.i _ (string_bytes c.args.text.now) (string_bytes c.loop-i.text) (string_bytes c.put_head.new.text) c.loop-i-test.true
     c.loop-i.invariant c.in_ok-put_head.ensures
 
 pub returns : goal.returns
-returns c = each_whole (head_text c.args.columns.now) c.args.columns.now c.loop-i.i (string_bytes c.args.text.now) (string_bytes c.loop-i.text) c.loop-i-test.false c.loop-i.invariant
+returns c = each_whole (head_text c.args.columns.now c.args.y) c.args.columns.now c.loop-i.i (string_bytes c.args.text.now) (string_bytes c.loop-i.text) c.loop-i-test.false c.loop-i.invariant

@@ -1,6 +1,0 @@
-use Rattle.std.proofs.Common.{◌≡◌, take}
-use Rattle.tx_picture.specs.Columns.{noted_lanes}
-use Rattle.tx_picture.proofs.columns.note_lanes.Given as goal
-
-abbrev pub invariant-loop-i : goal.invariant-loop-i
-invariant-loop-i l = l.columns.items ≡ noted_lanes l.initial.columns.items (take l.i l.lanes)
