@@ -69,6 +69,8 @@ PIPELINE = (
 """
 )
 COUNT = 44  # its steps
+# As if the program drew so few, so that short recordings are too long for it.
+FEW_STEPS = mock.patch("txos.picture.choosing.MOST_STEPS", 200)
 # A process that echoes what it reads, for another one, again and again.
 ECHOES = "".join(
     f"2 write 1 0 {size}  # = ok {size}  # 50 write\n3 read 0 0 9  # = ok {size}  # 51 read\n"
@@ -96,20 +98,27 @@ def number_of(replay, text):
     return next(it for it in range(1, len(replay) + 1) if replay.step(it).text == text)
 
 
+def row_at(y):
+    """The row of a height; 0 is the top edge. Heads stand two rows high before each 40 rows."""
+    heads = max((float(y) - 64) // 1008, 0)
+    return (float(y) - 52 - 48 * heads) / 24
+
+
 class Picture:
     """What a picture has, by the heights and columns of its rows."""
 
     def __init__(self, text):
         self.root = ElementTree.fromstring(text)
+        self.body, self.legend = self.root.findall(f"{SVG}g")
         self.heads = {it.text: it.get("x") for it in self._texts("head")}
         self.columns = {x: int(process) for process, x in self.heads.items()}
-        self.numbers = [int(it.text) for it in self._texts("number")[1:]]
+        self.numbers = [int(it.text) for it in self._texts("number") if it.text != "process"]
         self.steps = [it.text for it in self._texts("step")]
         self.foot = " ".join(it.text for it in self._texts("foot"))
-        self.marks = [it for it in self.root.findall(f"{SVG}ellipse") if it.get("cx")]
+        self.marks = self.body.findall(f"{SVG}ellipse")
 
     def _texts(self, kind):
-        return [it for it in self.root.findall(f"{SVG}text") if it.get("class") == kind]
+        return [it for it in self.root.iter(f"{SVG}text") if it.get("class") == kind]
 
     def names(self):
         """The short name and the title of each process."""
@@ -118,17 +127,17 @@ class Picture:
 
     def rows(self):
         """Of each mark: the row, the process, and whether it is refused."""
-        rows = [(float(it.get("cy")) - 52) / 24 for it in self.marks]
+        rows = [row_at(it.get("cy")) for it in self.marks]
         makers = [self.columns[it.get("cx")] for it in self.marks]
         return list(zip(rows, makers, [it.get("class") == "refused" for it in self.marks]))
 
     def lines(self, *kinds):
-        return [it for it in self.root.findall(f"{SVG}line") if it.get("class") in kinds]
+        return [it for it in self.body.findall(f"{SVG}line") if it.get("class") in kinds]
 
     def lanes(self):
         """The process and the rows of each lane; row 0 is the top."""
         return sorted(
-            (self.columns[it.get("x1")], *((float(it.get(y)) - 52) / 24 for y in ("y1", "y2")))
+            (self.columns[it.get("x1")], *(row_at(it.get(y)) for y in ("y1", "y2")))
             for it in self.lines("lane")
         )
 
@@ -139,7 +148,7 @@ class Picture:
             start = start or (it.get("x1"), it.get("y1"))
             if it.get("class") == "pipe":
                 ends = (start, (it.get("x2"), it.get("y2")))
-                found.add(tuple((self.columns[x], (float(y) - 52) / 24) for x, y in ends))
+                found.add(tuple((self.columns[x], round(row_at(y))) for x, y in ends))
                 start = None
         return found
 
@@ -230,20 +239,20 @@ class Drawing(unittest.TestCase):
     def test_boxes_end_in_the_rows_of_their_steps(self):
         texts = ["2 getpid", "2 sys_xbegin", "2 map 0", "2 map 1", "2 sys_xend", "2 getpid"]
         picture = self.drawn([Row(it, text, it in (1, 3)) for it, text in enumerate(texts, 1)])
-        [box] = [it for it in picture.root.findall(f"{SVG}rect") if it.get("class") == "committed"]
+        [box] = [it for it in picture.body.findall(f"{SVG}rect") if it.get("class") == "committed"]
         top, height = float(box.get("y")), float(box.get("height"))
         self.assertEqual([round((it - 52) / 24) for it in (top, top + height)], [1, 3])
 
     def test_a_box_of_hidden_rows_goes(self):
         texts = ["2 sys_xbegin", "2 map 0", "2 sys_xend", "2 getpid", "2 getpid"]
         picture = self.drawn([Row(it, text, it < 5) for it, text in enumerate(texts, 1)])
-        self.assertEqual([it for it in picture.root.findall(f"{SVG}rect") if it.get("class")], [])
+        self.assertEqual([it for it in picture.body.findall(f"{SVG}rect") if it.get("class")], [])
 
     def test_the_legend_has_boxes_where_the_picture_has_one(self):
         begins = ["2 getpid", "2 sys_xbegin"]
         for texts, has_boxes in ((begins, True), (begins[:1], False)):
             picture = self.drawn([Row(it, text) for it, text in enumerate(texts, 1)])
-            legend = picture.root.find(f"{SVG}g")
+            legend = picture.legend
             marks = {it.get("class") for it in legend} - {None}
             self.assertLessEqual({"refused", "signal", "pipe", "accepted"}, marks)
             for it in ("committed", "aborted", "open", "refusal"):
@@ -338,6 +347,17 @@ class Choices(unittest.TestCase):
         kinds = "4 steps of the setup, 4 steps of files, 1 action of signals"
         self.assertIn(f"Left out: {kinds}.", picture.foot)
 
+    def test_a_long_recording_has_all_its_rows_with_heads_again(self):
+        pairs = "2 write 4 0 1  # = ok 1  # 8 write\n2 read 3 0 1  # = ok 1  # 9 read\n" * 150
+        with replayed(f"{SETUP}2 pipe 0 0 1  # = ok 0  # 7 pipe2\n{pairs}") as replay:
+            choice = choose(replay)
+            picture = self.assert_drawn(replay, choice)
+        self.assertEqual(choice.shown, list(range(5, 306)))
+        heads = [round(float(it.get("y"))) for it in picture._texts("head") if it.text == "2"]
+        self.assertEqual(heads, [28 + 1008 * it for it in range(8)])
+        names = [round(float(it.get("y"))) for it in picture._texts("name") if it.get("x") == "144"]
+        self.assertEqual(names, [it + 14 for it in heads])
+
     def test_each_step_of_a_whole_part(self):
         with replayed(PIPELINE) as replay:
             for first, last in ((1, COUNT), (1, 1), (COUNT, COUNT), (20, 30)):
@@ -362,6 +382,7 @@ class Choices(unittest.TestCase):
             part = Picture(draw_choice(replay, choose_part(replay, Part(1, fork, False))))
         self.assertEqual(part.names()[3], ("seq", "seq 3"))
 
+    @FEW_STEPS
     def test_no_state_is_looked_at_after_what_fits(self):
         pairs = "2 write 4 0 1  # = ok 1  # 8 write\n2 read 3 0 1  # = ok 1  # 9 read\n"
         drawn = []
@@ -395,9 +416,20 @@ class Choices(unittest.TestCase):
             choice = choose_part(replay, Part(first, COUNT, False))
             picture = self.assert_drawn(replay, choice)
         self.assertEqual(set(picture.heads), {"1", "2", "5"})
+        self.assertEqual(choice.made, list(range(1, COUNT + 1)))
+        self.assertNotIn("earlier steps", picture.foot)
+
+    @FEW_STEPS
+    def test_of_the_steps_before_a_part_behind_what_fits_few_are_made(self):
+        files = "".join(FILE.format(2, 3) for _ in range(150))
+        with replayed(PIPELINE.replace("2 waitpid 4", f"{files}2 waitpid 4")) as replay:
+            first = number_of(replay, "2 waitpid 4 wait") + 1
+            choice = choose_part(replay, Part(first, len(replay), False))
+            picture = self.assert_drawn(replay, choice)
+        self.assertEqual(set(picture.heads), {"1", "2", "5"})
         earlier = sum(it < first for it in choice.made)
         self.assertIn(f"{earlier} earlier steps make the state", picture.foot)
-        self.assertLess(earlier, first // 2)
+        self.assertLess(earlier, COUNT // 2)
 
     def test_members_of_a_transaction_are_there_until_it_ends(self):
         steps = PIPELINE.replace("# 4 is tr", "4 sys_xbegin\n4 fork 9\n9 exit 0\n# 4 is tr")
@@ -406,11 +438,12 @@ class Choices(unittest.TestCase):
             picture = Picture(
                 draw_choice(replay, choose_part(replay, Part(first, first + 6, False)))
             )
-        boxes = [it for it in picture.root.findall(f"{SVG}rect") if it.get("class") == "committed"]
+        boxes = [it for it in picture.body.findall(f"{SVG}rect") if it.get("class") == "committed"]
         self.assertEqual(len(boxes), 2)
-        self.assertEqual({it.get("y") for it in boxes}, {"52"})
+        self.assertEqual({it.get("y") for it in boxes}, {"41"})
         self.assertIn("9", picture.heads)
 
+    @FEW_STEPS
     def test_a_long_recording_is_drawn_without_what_takes_no_part(self):
         files = "".join(FILE.format(2, 3) for _ in range(150))
         with replayed(PIPELINE) as replay:
@@ -419,8 +452,9 @@ class Choices(unittest.TestCase):
             choice = choose(replay)
             self.assert_drawn(replay, choice)
             self.assertEqual([replay.step(it).text for it in choice.shown], calls)
-        self.assertLessEqual(len(choice.made), MOST_STEPS)
+        self.assertLessEqual(len(choice.made), 200)
 
+    @FEW_STEPS
     def test_files_that_stay_open_are_made_but_not_drawn(self):
         opened = "".join(f"2 dup 15  # = ok {it}  # 5 openat\n" for it in (3, 4))
         steps = (
@@ -439,6 +473,7 @@ class Choices(unittest.TestCase):
             names = [replay.step(it).call for it in choice.made]
         self.assertEqual(names.count("dup 15"), 3)
 
+    @FEW_STEPS
     def test_a_longer_one_without_ends_of_pipes_that_nobody_needs(self):
         ends = "2 dup 3  # = ok 5  # 5 dup\n2 close 5  # = ok 0  # 6 close\n" * 120
         steps = PIPELINE.replace("2 fork 3", f"{ends}2 fork 3")
@@ -451,16 +486,18 @@ class Choices(unittest.TestCase):
         self.assertIn("3 dup2 4 1", calls)
         self.assertIn("steps of pipe ends", " ".join(choice.about))
 
+    @FEW_STEPS
     def test_of_the_longest_the_first_steps_are_drawn(self):
         pairs = "2 write 4 0 1  # = ok 1  # 8 write\n2 read 3 0 1  # = ok 1  # 9 read\n" * 150
         with replayed(SETUP + "2 pipe 0 0 1  # = ok 0  # 7 pipe2\n" + pairs) as replay:
             choice = choose(replay)
             self.assert_drawn(replay, choice)
-        self.assertEqual(len(choice.made), MOST_STEPS)
+        self.assertEqual(len(choice.made), 200)
         self.assertEqual(choice.made[-1], choice.shown[-1])
         next_part = f"What follows is drawn by --from {choice.shown[-1] + 1} --to STEP."
         self.assertIn(next_part, choice.about)
 
+    @FEW_STEPS
     def test_a_part_that_is_too_long_says_what_fits(self):
         pairs = "2 write 4 0 1  # = ok 1  # 8 write\n2 read 3 0 1  # = ok 1  # 9 read\n" * 150
         with replayed(SETUP + "2 pipe 0 0 1  # = ok 0  # 7 pipe2\n" + pairs) as replay:
@@ -474,6 +511,7 @@ class Choices(unittest.TestCase):
             self.assertEqual(choice.shown[0], 50)
             self.assertGreater(len(choice.shown), 150)
 
+    @FEW_STEPS
     def test_a_state_that_takes_too_many_steps(self):
         writes = "2 write 4 0 1  # = ok 1  # 8 write\n" * 250
         made = "2 pipe 0 0 1  # = ok 0  # 7 pipe2\n"

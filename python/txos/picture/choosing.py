@@ -69,7 +69,7 @@ def choose_part(replay: Replay, part: Part) -> Choice:
     wanted = [it for it in range(part.first, len(roles) + 1) if roles[it - 1].kind in kinds]
     if not wanted:
         raise Fault(f"{_span(part)} have nothing to draw but with --whole")
-    made, fits = _made_for(replay, roles, wanted, part.first)
+    made, fits = _made_for(replay, roles, wanted, part.first, MOST_STEPS)
     if not fits:
         raise Fault(_too_long(part, wanted, made))
     return _choice(replay, roles, wanted, made, part)
@@ -84,7 +84,7 @@ def choose(replay: Replay) -> Choice:
     if len(replay) <= MOST_STEPS:
         return _choice(replay, roles, partaking, list(numbers), whole)
     if len(partaking) <= MOST_STEPS:
-        made, fits = _made_for(replay, roles, partaking, 1)
+        made, fits = _made_for(replay, roles, partaking, 1, MOST_STEPS)
         if fits:
             return _choice(replay, roles, partaking, made, whole)
     return _choose_main(replay, roles)
@@ -119,9 +119,11 @@ def _made_for(
     roles: Sequence[Role],
     wanted: Sequence[int],
     first: int,
-    most: int = MOST_STEPS,
+    most: int,
 ) -> Tuple[List[int], bool]:
     """The steps that are made to draw some, or the first of them; and whether there is room."""
+    if wanted[-1] <= MOST_STEPS:  # the program makes all before them, and draws none of these
+        return list(range(1, wanted[-1] + 1)), True
     made = steps_needed(replay, roles, wanted[:MOST_STEPS], first, most)
     return made, max(len(wanted), len(made)) <= MOST_STEPS
 
@@ -155,6 +157,6 @@ def _choice(
     if part.last < len(replay):
         about.append(f"What follows is drawn by --from {part.last + 1} --to STEP.")
     earlier = sum(it < part.first for it in made)
-    if earlier:
+    if earlier and earlier < part.first - 1:
         about.append(f"{earlier:,} earlier steps make the state that these begin with.")
     return Choice(list(shown), list(made), about)

@@ -1,11 +1,14 @@
 """The program's picture of steps, with the names of processes, and without the rows of some steps.
 
-The program draws a row of one height for each step. What is in a hidden row is taken out, and what
-goes through it is shortened, so that the rows that are left follow one another.
+The program draws a row of one height for each step, and the heads of the columns again after each
+40 rows. The rows before the first one that is shown it leaves out itself. What is in a hidden row
+behind that is taken out, and what goes through it is shortened, so that the rows that are left
+follow one another.
 """
 
 from __future__ import annotations
 
+import copy
 import re
 import subprocess
 import textwrap
@@ -17,15 +20,19 @@ from ..faults import Fault
 from ..kernel import find_program
 from ..recording import HEADER
 
-MOST_STEPS = 200  # that the program draws
+MOST_STEPS = 4096  # that the program draws
 _SVG = "http://www.w3.org/2000/svg"
 _ROW, _START = 24, 52  # how high a row is; where lanes start, a row above the first one's middle
-_TOP = _START + _ROW // 2  # where the first row begins
+_PAGE, _HEADS, _FIRST_HEADS = 40, 48, 28  # rows between heads, how high these are, and the first
+_LEGEND_GAP, _FOOT_ROOM = 32, 88  # from the last row to the legend, and to the end
 _LETTER, _MARGIN, _LEAST_WIDTH = 8, 16, 480  # how the program reckons the width
 _NAME_LETTERS = 7  # that have room between two columns
 _FOOT_GAP, _FOOT_LINE, _FOOT_LETTER = 8, 18, 6.7
-_STYLE = ".name{font-size:10px;text-anchor:middle}\n.foot{font-size:11px;fill:#555}\n"
+_STYLE = """.name{font-size:10px;text-anchor:middle;stroke:#fff;stroke-width:3;paint-order:stroke}
+.foot{font-size:11px;fill:#555}
+"""
 _BOXES = ("committed", "aborted", "open")
+_STARTER = 9  # from a box's top to its number
 _OF_TRANSACTIONS = (*_BOXES, "refusal")
 _LEGEND_BOXES = 292  # the room that they have in the legend
 _NOT_IN_XML = re.compile("[^\t\n\r\x20-\ud7ff\ue000-\ufffd\U00010000-\U0010ffff]")
@@ -51,19 +58,27 @@ class Name:
 def draw(rows: Sequence[Row], names: Dict[int, Name], title: str, foot: Sequence[str]) -> str:
     """The picture as SVG; raises `Fault` where the program draws none."""
     ElementTree.register_namespace("", _SVG)
-    picture = _Picture(ElementTree.fromstring(_drawn([it.text for it in rows])), rows)
+    first = next((it for it, row in enumerate(rows) if not row.is_hidden), max(len(rows) - 1, 0))
+    drawn = _drawn([it.text for it in rows], first + 1)
+    picture = _Picture(ElementTree.fromstring(drawn), rows[first:])
     picture.crop()
     picture.name_columns(names)
+    picture.repeat_heads()
     picture.fit_width()
     picture.add_words(title, foot)
     return picture.text()
 
 
-def _drawn(steps: Sequence[str]) -> str:
-    """The program's picture of steps."""
+def _height(row: int) -> int:
+    """The middle of a row, from 1; 0 is the top edge."""
+    return _START + _ROW * row + _HEADS * (max(row - 1, 0) // _PAGE)
+
+
+def _drawn(steps: Sequence[str], first: int) -> str:
+    """The program's picture of steps from one on."""
     schedule = "".join(f"{it}\n" for it in (HEADER, *steps))
     ran = subprocess.run(
-        [find_program(), "picture"],
+        [find_program(), "picture", "--from", str(first)],
         input=schedule.encode("utf-8"),
         capture_output=True,
         check=False,
@@ -79,7 +94,10 @@ class _Picture:
 
     def __init__(self, root: ElementTree.Element, rows: Sequence[Row]) -> None:
         self._root = root
+        body, self._legend = root.findall(f"{{{_SVG}}}g")
+        self._body = body
         self._rows = rows
+        self._heights = [_height(it) for it in range(len(rows) + 1)]
         self._shown = [0]  # how many of so many rows are shown
         for it in rows:
             self._shown.append(self._shown[-1] + (not it.is_hidden))
@@ -93,55 +111,61 @@ class _Picture:
 
     def crop(self) -> None:
         """Takes the hidden rows out."""
-        elements = iter(list(self._root))
+        elements = iter(list(self._body))
+        starters = iter([it for it in self._body if it.get("class") == "starter"])
         for it in elements:
             kind = it.get("class")
-            if it.tag == f"{{{_SVG}}}g":
-                self._move_legend(it)
-                if not any(mark.get("class") in _OF_TRANSACTIONS for mark in self._root):
-                    _clear_legend(it)
+            if kind == "head" or it.text == "process":
+                self._keep_first_head(it)
             elif kind in _BOXES:
-                self._shorten_box(it)
+                self._shorten_box(it, next(starters))
             elif kind in ("lane", "held") and it.get("y1") != it.get("y2"):
                 self._shorten(it)
             elif kind == "bend":
                 self._crop_arrow([it, next(elements)])
             elif kind == "pipe":
                 self._crop_arrow([it])
-            elif kind:
+            elif kind and kind != "starter":
                 self._crop_row(it)
-        height = self._moved(_number(self._root, "height"))
-        self._set_size(_number(self._root, "width"), height)
+        if not any(it.get("class") in _OF_TRANSACTIONS for it in self._body):
+            _clear_legend(self._legend)
+        last = _height(self._shown[-1])
+        x = re.findall(r"\d+", self._legend.get("transform", ""))[0]
+        self._legend.set("transform", f"translate({x},{last + _LEGEND_GAP})")
+        self._set_size(_number(self._root, "width"), last + _FOOT_ROOM)
 
     def _row_of(self, y: float) -> int:
-        """The row that a height lies in or next to, from 1; 0 and less is above all rows."""
-        return round((y - _START) / _ROW)
+        """The row that a height lies in, from 1; 0 is the top edge."""
+        return min(range(len(self._heights)), key=lambda row: abs(self._heights[row] - y))
 
     def _is_hidden(self, row: int) -> bool:
         return row > 0 and self._rows[row - 1].is_hidden
 
     def _moved(self, y: float) -> float:
         """Where a height comes to lie; what is hidden above all that is shown is at the start."""
-        if y <= _TOP:
-            return y
-        row = min(int((y - _TOP) // _ROW), len(self._rows))  # how many are above it
+        row = self._row_of(y)
         above = self._shown[row]
-        if row < len(self._rows) and self._rows[row].is_hidden:
-            return _TOP + _ROW * above if above else _START
-        return y - _ROW * (row - above)
+        if self._is_hidden(row):
+            return _height(above) + _ROW // 2 if above else _START
+        return _height(above) + y - self._heights[row]
+
+    def _keep_first_head(self, element: ElementTree.Element) -> None:
+        """Takes the heads out that are there again: of what is shown they may be elsewhere."""
+        if _number(element, "y") != _FIRST_HEADS:
+            self._body.remove(element)
 
     def _crop_row(self, element: ElementTree.Element) -> None:
         """Moves what lies in one row, or takes it out."""
         ys = [it for it in ("y", "cy", "y1", "y2") if it in element.attrib]
         row = self._row_of(_number(element, ys[0]))
         if self._is_hidden(row):
-            self._root.remove(element)
+            self._body.remove(element)
             return
         for it in ys:
             _set(element, it, self._moved(_number(element, it)))
         if row > 0 and element.get("class") == "number":
             element.text = str(self._rows[row - 1].number)
-        elif row > 0 and element.get("class") == "step":
+        elif row > 0 and element.get("class") in ("step", "left"):
             answer = (element.text or "").rpartition(" : ")[2]
             element.text = _clean(f"{self._rows[row - 1].text} : {answer}")
 
@@ -150,21 +174,24 @@ class _Picture:
         for it in ("y1", "y2"):
             _set(line, it, self._moved(_number(line, it)))
         if line.get("y1") == line.get("y2"):
-            self._root.remove(line)
+            self._body.remove(line)
 
-    def _shorten_box(self, box: ElementTree.Element) -> None:
+    def _shorten_box(self, box: ElementTree.Element, starter: ElementTree.Element) -> None:
+        """Shortens a box, with the number of its starter at its top."""
         top, end = _number(box, "y"), _number(box, "y") + _number(box, "height")
         _set(box, "y", self._moved(top))
         _set(box, "height", self._moved(end) - self._moved(top))
+        _set(starter, "y", self._moved(top) + _STARTER)
         if box.get("height") == "0":
-            self._root.remove(box)
+            self._body.remove(box)
+            self._body.remove(starter)
 
     def _crop_arrow(self, parts: List[ElementTree.Element]) -> None:
         """Moves an arrow from one row to another, which may have a bend; without a head it goes."""
         first, last = parts[0], parts[-1]
         if self._is_hidden(self._row_of(_number(last, "y2"))):
             for it in parts:
-                self._root.remove(it)
+                self._body.remove(it)
             return
         top, end = (self._moved(_number(first, "y1")), self._moved(_number(last, "y2")))
         _set(first, "y1", top)
@@ -173,27 +200,37 @@ class _Picture:
             _set(first, "y2", (top + end) / 2)
             _set(last, "y1", (top + end) / 2)
 
-    def _move_legend(self, legend: ElementTree.Element) -> None:
-        x, y = re.findall(r"-?\d+", legend.get("transform", ""))
-        legend.set("transform", f"translate({x},{_spelled(self._moved(float(y)))})")
-
     # Words, and the size.
 
     def name_columns(self, names: Dict[int, Name]) -> None:
         """Names the process of each column, below its number."""
-        for head in [it for it in self._root if it.get("class") == "head"]:
+        for head in [it for it in self._body if it.get("class") == "head"]:
             name = names.get(int(head.text or 0))
             if name:
                 y = _number(head, "y") + 14
-                text = self._add_text(_cut(name.short, _NAME_LETTERS), "name", head.attrib["x"], y)
+                short = _cut(name.short, _NAME_LETTERS)
+                text = _add_text(self._body, short, "name", head.attrib["x"], y)
                 title = ElementTree.SubElement(text, f"{{{_SVG}}}title")
                 title.text, title.tail = _clean(name.whole), text.text
                 text.text = None
 
+    def repeat_heads(self) -> None:
+        """Puts the numbers and names of the processes again after each 40 rows that are shown."""
+        heads = [it for it in self._body if it.get("class") in ("head", "name")]
+        heads += [it for it in self._body if it.text == "process"]
+        for row in range(_PAGE + 1, self._shown[-1] + 1, _PAGE):
+            for it in heads:
+                again = copy.deepcopy(it)
+                _set(again, "y", _number(it, "y") + _height(row) - _height(1))
+                self._body.append(again)
+
     def fit_width(self) -> None:
         """Gives the picture room for the steps that are shown, as they are spelled."""
-        texts = [it for it in self._root if it.get("class") == "step"]
-        ends = (_number(it, "x") + _LETTER * len(it.text or "") for it in texts)
+        texts = [it for it in self._body if it.get("class") == "step"]
+        is_wide = any(it.get("class") == "left" for it in self._body)
+        left = _LETTER * max([len(it.text or "") for it in texts if is_wide], default=0)
+        self._body.set("transform", f"translate({left},0)")
+        ends = (left + _number(it, "x") + _LETTER * len(it.text or "") for it in texts)
         width = max([_LEAST_WIDTH, *(it + _MARGIN for it in ends)])
         self._set_size(width, _number(self._root, "height"))
 
@@ -203,7 +240,8 @@ class _Picture:
         letters = int((width - 2 * _MARGIN) / _FOOT_LETTER)
         lines = [line for it in foot for line in textwrap.wrap(_clean(it), letters)]
         for count, line in enumerate(lines):
-            self._add_text(line, "foot", str(_MARGIN), height + _FOOT_GAP + _FOOT_LINE * count)
+            y = height + _FOOT_GAP + _FOOT_LINE * count
+            _add_text(self._root, line, "foot", str(_MARGIN), y)
         self._set_size(width, height + _FOOT_GAP + _FOOT_LINE * len(lines))
         style = self._root.find(f"{{{_SVG}}}style")
         assert style is not None
@@ -212,16 +250,19 @@ class _Picture:
         element.text, element.tail = _clean(title), "\n"
         self._root.insert(0, element)
 
-    def _add_text(self, text: str, kind: str, x: str, y: float) -> ElementTree.Element:
-        place = {"class": kind, "x": x, "y": _spelled(y)}
-        element = ElementTree.SubElement(self._root, f"{{{_SVG}}}text", place)
-        element.text, element.tail = _clean(text), "\n"
-        return element
-
     def _set_size(self, width: float, height: float) -> None:
         _set(self._root, "width", width)
         _set(self._root, "height", height)
         self._root.set("viewBox", f"0 0 {_spelled(width)} {_spelled(height)}")
+
+
+def _add_text(
+    inside: ElementTree.Element, text: str, kind: str, x: str, y: float
+) -> ElementTree.Element:
+    place = {"class": kind, "x": x, "y": _spelled(y)}
+    element = ElementTree.SubElement(inside, f"{{{_SVG}}}text", place)
+    element.text, element.tail = _clean(text), "\n"
+    return element
 
 
 def _clear_legend(legend: ElementTree.Element) -> None:
