@@ -36,8 +36,8 @@
 //!   `state_text` the text of the state there.
 //! - `print_state` gives the text of a machine's state, and `put_state` appends it: that of the
 //!   definitions' state, all of it. Live transactions are printed in one pass over the marks, and a
-//!   second one over the starters. `put_piece` appends the lines of one `Piece` of the state, and
-//!   `print_pieces` gives those of some.
+//!   second one over the starters. `put_piece` appends the lines of one `Piece` of the state,
+//!   `print_pieces` gives those of some, and `all_pieces` lists all.
 //!
 //! What is so of every session is its type's invariant (`IsJournal`): the journal is lawful from
 //! the booted state, and from the machine's content each inverse leads back to what has the view of
@@ -77,6 +77,7 @@ pub use entry::Entry;
 pub use faults::{AtStart, ForwardFault, GotoFault, MovedFault};
 pub use moved::Moved;
 pub use pieces::{Piece, print_pieces, put_piece};
+pub use rows::all_pieces;
 pub use session::Session;
 pub use since::Touch;
 pub use state::{print_state, put_state};

@@ -1,10 +1,11 @@
-//! Lists the pieces of a state that a step may change.
+//! Lists the pieces of a state: all, or those that a step may change.
 ghost use Rattle.std.specs.List.{filter};
 ghost use Rattle.std.specs.Prelude.{◌≡◌, ◌<◌, ◌≤◌, ◌++◌, IfOk, OnOk};
 ghost use Rattle.tx_base.specs.declared.steps.Step.{Step as TheStep};
+ghost use Rattle.tx_core.specs.Machines.{IsWidth};
 ghost use Rattle.tx_journal.specs.Reach.{is_reached, reached_pieces};
 ghost use Rattle.tx_journal.specs.Reaches.{Reaches};
-ghost use Rattle.tx_journal.specs.Rows.{limit_of, piece_in, row_pieces};
+ghost use Rattle.tx_journal.specs.Rows.{limit_of, piece_in, row_pieces, state_pieces};
 ghost use Rattle.tx_live.specs.Content.{view_of};
 
 use crate::pieces::Piece;
@@ -51,6 +52,34 @@ impl Row {
             Row::Txns => Piece::Txn(Pid(number + 1)),
         }
     }
+}
+
+/// All pieces that a machine's state may have, in the order of the state's text: its processes,
+/// descriptions, pipes and live transactions.
+///
+/// NoMemory where a growth is refused.
+pub fn all_pieces(alloc: Global, machine: &Machine) -> Result<Vec<Piece>, NoMemory>
+    ensures { IfOk result (λ found.
+        found.items ≡ state_pieces (view_of machine.now).table.width) }
+{
+    let width = machine.processes();
+    let mut found = Vec::new(alloc);
+    put_all(&mut found, width, Row::Procs)?;
+    put_all(&mut found, width, Row::Descs)?;
+    put_all(&mut found, width, Row::Pipes)?;
+    put_all(&mut found, width, Row::Txns)?;
+    Ok(found)
+}
+
+/// Appends the pieces of a row, where there are so many process numbers.
+fn put_all(found: &mut Vec<Piece>, width: u16, row: Row) -> Result<(), AllocError>
+    requires { IsWidth width }
+    ensures { OnOk result (found.new.items ≡ found.old.items ++ row_pieces row width) }
+{
+    for number in 0..row.limit(width) {
+        found.push(row.piece(number))?;
+    }
+    Ok(())
 }
 
 /// The pieces of a machine's state that a step may change, in the order of the state's text. It goes

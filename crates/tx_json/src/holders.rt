@@ -1,8 +1,6 @@
 //! Writes who has a side of a pipe open.
-ghost use Rattle.std.specs.Prelude.{◌≡◌, ◌++◌, OnOk, option_map, codes};
-ghost use Rattle.tx_json.specs.Each.{each_tokens};
-ghost use Rattle.tx_json.specs.Holders.{holder_tokens, holders_members};
-ghost use Rattle.tx_json.specs.Members.{list_member};
+ghost use Rattle.std.specs.Prelude.{◌≡◌, ◌++◌, OnOk, option_map};
+ghost use Rattle.tx_json.specs.Holders.{holder_tokens, holders_member, holders_members};
 
 use crate::line::LineWriter;
 use crate::members::{begin_list, begin_object, end_list, end_object, put_count};
@@ -23,17 +21,21 @@ pub fn put_holders(writer: &mut LineWriter, holders: Option<&[Holder]>) -> Resul
         ++ holders_members (option_map (λ held. held.now) holders.entry)) }
 {
     match holders {
-        Some(holders) => put_list(writer, holders),
+        Some(holders) => put_holder_list(writer, "holders", holders),
         None => Ok(()),
     }
 }
 
-/// Appends a list of descriptors of processes.
-fn put_list(writer: &mut LineWriter, holders: &[Holder]) -> Result<(), AllocError>
-    ensures { OnOk result (writer.new ≡ writer.old
-        ++ list_member (codes "holders") (each_tokens holder_tokens holders.now)) }
+/// Appends a list of descriptors of processes, as `"readers":[{"process":4,"descriptor":0}]`.
+pub fn put_holder_list(
+    writer: &mut LineWriter,
+    name: &str,
+    holders: &[Holder],
+) -> Result<(), AllocError>
+    ensures { OnOk result
+        (writer.new ≡ writer.old ++ holders_member name.now holders.now) }
 {
-    begin_list(writer, "holders")?;
+    begin_list(writer, name)?;
     for i in 0..holders.len() {
         put_holder(writer, holders[i])?;
     }

@@ -18,7 +18,7 @@ pub use answers::{
     begin_lines, empty_answer, end_answer, entry_answer, error_answer, position_answer, put_entry,
     put_step_answer, state_answer, trial_answer,
 };
-pub use holders::{Holder, put_holders};
+pub use holders::{Holder, put_holder_list, put_holders};
 pub use line::LineWriter;
 pub use lists::put_count_item;
 pub use members::{

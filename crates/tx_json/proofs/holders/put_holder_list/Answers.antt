@@ -1,7 +1,7 @@
 use Rattle.std.proofs.Common.{rules, ◌<◌, length}
 use Rattle.tx_json.specs.EachLaws.{each_more}
 use Rattle.tx_json.specs.Holders.{holder_tokens}
-use Rattle.tx_json.proofs.holders.put_list.Goals as goal
+use Rattle.tx_json.proofs.holders.put_holder_list.Goals as goal
 
 pub loop-i-preserved : goal.loop-i-preserved
 loop-i-preserved c =
