@@ -18,6 +18,7 @@ import txos.kernel
 from txos import (
     Action,
     BadLine,
+    DescHolders,
     Description,
     Difference,
     Found,
@@ -30,6 +31,7 @@ from txos import (
     NoProgram,
     Owned,
     Page,
+    PipeHolders,
     Process,
     Queued,
     Refused,
@@ -217,6 +219,33 @@ class Answers(unittest.TestCase):
         self.assertEqual(self.kernel.without(2), Difference(inside, restored))
         self.assertIsNone(self.kernel.without(1))
         self.assertEqual(self.kernel.position, 3)
+
+    def test_how_two_positions_differ(self):
+        self.steps("2 map 0", "2 store 0 01", "2 getpid")
+        self.kernel.goto(1)
+        unmapped, mapped = "proc 2 parent 1 run point 0 ret 0", "proc 2 parent 1 run point 1 ret 0"
+        self.assertEqual(self.kernel.diff(0, 1), Difference((unmapped,), (mapped, "page 0 rw")))
+        self.assertEqual(self.kernel.diff(1, 0), Difference((mapped, "page 0 rw"), (unmapped,)))
+        later = ("proc 2 parent 1 run point 3 ret 2", "page 0 rw 0=01")
+        self.assertEqual(self.kernel.diff(1, 3), Difference((mapped, "page 0 rw"), later))
+        self.assertEqual(self.kernel.diff(2, 2), Difference((), ()))
+        for first, last in ((0, 4), (4, 0)):
+            with self.assertRaises(IndexError):
+                self.kernel.diff(first, last)
+        self.assertEqual(self.kernel.position, 1)
+
+    def test_who_has_a_pipe_open(self):
+        self.assertIsNone(self.kernel.holds_pipe(0))
+        self.assertIsNone(self.kernel.holds_desc(0))
+        self.steps("2 pipe 0 5 6", "2 fork 5", "5 dup 1", "2 close 1")
+        held = PipeHolders({2: (0,), 5: (0,)}, {5: (1, 2)})
+        self.assertEqual(self.kernel.holds_pipe(0), held)
+        self.assertEqual(self.kernel.holds_desc(5), DescHolders(0, "read", {2: (0,), 5: (0,)}))
+        self.assertEqual(self.kernel.holds_desc(6), DescHolders(0, "write", {5: (1, 2)}))
+        self.steps("5 close 1", "5 close 2")
+        self.assertEqual(self.kernel.holds_pipe(0), PipeHolders({2: (0,), 5: (0,)}, {}))
+        with self.assertRaises(BadLine):
+            self.kernel.holds_pipe(256)
 
     def test_what_is_in_the_way(self):
         self.assertEqual(self.kernel.owns(), {})

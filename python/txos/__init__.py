@@ -8,6 +8,7 @@
 from .kernel import (
     Action,
     BadLine,
+    DescHolders,
     Description,
     Difference,
     Found,
@@ -20,6 +21,7 @@ from .kernel import (
     NoProgram,
     Owned,
     Page,
+    PipeHolders,
     Process,
     Queued,
     Refused,
@@ -37,6 +39,7 @@ from .kernel import (
 __all__ = [
     "Action",
     "BadLine",
+    "DescHolders",
     "Description",
     "Difference",
     "Found",
@@ -49,6 +52,7 @@ __all__ = [
     "NoProgram",
     "Owned",
     "Page",
+    "PipeHolders",
     "Process",
     "Queued",
     "Refused",

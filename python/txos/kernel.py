@@ -203,6 +203,23 @@ class Owned:
     pipes: tuple[int, ...]
 
 
+@dataclass(frozen=True)
+class PipeHolders:
+    """Who has the sides of a pipe open: the descriptors of each process."""
+
+    readers: dict[int, tuple[int, ...]]
+    writers: dict[int, tuple[int, ...]]
+
+
+@dataclass(frozen=True)
+class DescHolders:
+    """Which side of which pipe a description is, "read" or "write", and who has it open."""
+
+    pipe: int
+    side: str
+    holders: dict[int, tuple[int, ...]]
+
+
 # A state is made of light classes, and not of the objects that were read: a piece is found by its
 # number (`state.procs[2].pages[0]`), bytes are bytes, an editor knows the names, and `==` compares
 # whole states. `Kernel.ask("state")` has the objects.
@@ -432,6 +449,16 @@ class Kernel:
         reply = None if refused else _read_reply(answer)
         return Trial(*_read_sides(answer["lines"]), reply, refused)
 
+    def diff(self, first: int, last: int) -> Difference:
+        """How the state at a position differs from that at the first one, and stays.
+
+        Raises IndexError where there is no such position.
+        """
+        lines = self._lines(f"diff {first} {last}")
+        if lines == ["no place"]:
+            raise IndexError(f"there are no positions {first} and {last}")
+        return Difference(*_read_sides(lines))
+
     def without(self, starter: int) -> Difference | None:
         """How the state would differ if the kernel aborted the transaction that a process began.
 
@@ -451,6 +478,20 @@ class Kernel:
         """What each live transaction has reserved, by the process that began it."""
         lines = [it.split() for it in self._lines("owns") if it != "no transaction"]
         return {int(it[1]): Owned(*map(_read_numbers, it[3::2])) for it in lines}
+
+    def holds_pipe(self, number: int) -> PipeHolders | None:
+        """Who has the sides of a pipe open; None where there is no such pipe."""
+        answer = self.ask(f"holds pipe {number}")
+        if answer["readers"] is None:
+            return None
+        return PipeHolders(*(_read_holders(answer[it]) for it in ("readers", "writers")))
+
+    def holds_desc(self, number: int) -> DescHolders | None:
+        """Who has a description open; None where there is no such description."""
+        answer = self.ask(f"holds desc {number}")
+        if answer["holders"] is None:
+            return None
+        return DescHolders(answer["pipe"], answer["side"], _read_holders(answer["holders"]))
 
     def when(self, piece: str) -> Found | None:
         """Goes back to after the step that changed a piece of the state last, as `page 2 0`.
@@ -653,6 +694,13 @@ def _read_sides(lines: list[str]) -> tuple[tuple[str, ...], tuple[str, ...]]:
 
 def _read_numbers(text: str) -> tuple[int, ...]:
     return () if text == "-" else tuple(map(int, text.split(",")))
+
+
+def _read_holders(items: list[dict[str, int]]) -> dict[int, tuple[int, ...]]:
+    found: dict[int, tuple[int, ...]] = {}
+    for it in items:
+        found[it["process"]] = (*found.get(it["process"], ()), it["descriptor"])
+    return found
 
 
 def _read_page(it: dict[str, Any]) -> Page:

@@ -14,7 +14,7 @@ pub mod alone;
 pub mod bytes;
 pub mod calls;
 mod commands;
-mod fields;
+pub mod fields;
 pub mod headers;
 pub mod labels;
 pub mod numbers;

@@ -122,7 +122,7 @@ const PIECES_MEANT: &str =
     "proc P, page P N, fd P F, ids P, pending P, queue P, desc D, pipe Q, txn S";
 
 /// The commands of a session.
-pub static SESSION: [FormRow; 18] = [
+pub static SESSION: [FormRow; 20] = [
     ("back", "", ""),
     ("forward", "", ""),
     ("goto", "K|end", "a position, 0 is before all steps"),
@@ -131,10 +131,12 @@ pub static SESSION: [FormRow; 18] = [
     ("steps", "[K] [L]", "the first step, and the last"),
     ("text", "", ""),
     ("try", "STEP", "a step, as 2 getpid"),
+    ("diff", "K L", "two positions, 0 is before all steps"),
     ("without", "S", "the process that began the transaction"),
     ("when", "PIECE", PIECES_MEANT),
     ("why", "[STEP]", "a step, as 2 getpid"),
     ("owns", "[S]", "the process that began the transaction"),
+    ("holds", "pipe|desc N", "pipe or desc, and its number"),
     ("next", "PIECE", PIECES_MEANT),
     ("cut", "", ""),
     ("help", "[WORD]", "a word to be explained"),

@@ -213,8 +213,10 @@ abbrev pub shell_rows : List Row
 shell_rows =
     row "try" [] "says what a step would be answered here, and how the state would differ."
     ∷ row "why" [] "says why a step would be refused here, or what it would be answered."
+    ∷ row "diff" [] "says how the states at two positions differ, and stays."
     ∷ row "without" [] "says how the state would differ if a transaction were aborted here."
     ∷ row "owns" [] "says what the live transactions have reserved."
+    ∷ row "holds" [] "says which descriptors of which processes have a pipe open."
     ∷ row "when" [] "goes back to the step that changed a piece of the state last."
     ∷ row "next" [] "goes on to the step that changes a piece of the state next."
     ∷ row "steps" [] "lists the steps with their replies, and the position."

@@ -38,7 +38,7 @@ chosen_tell chosen tell silent (piece ∷ found) = by (chosen_tell chosen tell s
     by rest true is = ap (λ (t : List ℕ). tell piece ++ t) rest
     by rest false is = rest ∙ ap (λ (t : List ℕ). t ++ each_text tell found) (sym (silent piece is))
 
-pairs_tell : (V W : View) (found : List Piece) → all_differing (lines_of found V) (lines_of found W) ≡ each_text (piece_differing V W) found
+pub pairs_tell : (V W : View) (found : List Piece) → all_differing (lines_of found V) (lines_of found W) ≡ each_text (piece_differing V W) found
 pairs_tell V W [] = refl
 pairs_tell V W (piece ∷ found) = ap (λ (t : List ℕ). piece_differing V W piece ++ t) (pairs_tell V W found)
 

@@ -1,4 +1,5 @@
 pub mod Behind
+pub mod Compared
 pub mod Consoles
 pub mod CutLines
 pub mod FirstWords
@@ -8,6 +9,7 @@ pub mod Jsons
 pub mod LeftOver
 pub mod Listed
 pub mod Numbered
+pub mod Numbers
 pub mod OwnSteps
 pub mod Owned
 pub mod Replayed

@@ -16,11 +16,13 @@ use Rattle.tx_lines.specs.declared.read.header.Version.{Version}
 use Rattle.tx_model.specs.Answer.{answer}
 use Rattle.tx_model.specs.Schedules.{history_with}
 use Rattle.tx_model.specs.State.{State}
-use Rattle.tx_model.specs.View.{view}
+use Rattle.tx_model.specs.View.{present, view}
 use Rattle.tx_script.specs.Debug.{command_response, first_steps, position_after, responded_in, Responded}
 use Rattle.tx_shell.specs.Changes.{shown_at, FindsLast, FindsNext}
+use Rattle.tx_shell.specs.Comparisons.{compared_at, differing_between, IsAmong}
 use Rattle.tx_shell.specs.Differences.{differing_without, views_differing}
 use Rattle.tx_shell.specs.Forms.{SaysAhead, SaysAnswer, SaysReply, TellsIn}
+use Rattle.tx_shell.specs.Held.{desc_held, held_desc, held_pipe, pipe_held, HeldDesc, HeldPipe}
 use Rattle.tx_shell.specs.Origins.{start_in, grammar_of, Origin}
 use Rattle.tx_shell.specs.Pieces.{piece_name, FitsPiece}
 use Rattle.tx_shell.specs.Places.{Place}
@@ -43,11 +45,14 @@ ask_text asks.Text = codes "text"
 ask_text (asks.Try step) = codes "try " ++ step_text step
 ask_text (asks.When piece) = codes "when " ++ piece_name piece
 ask_text (asks.Next piece) = codes "next " ++ piece_name piece
+ask_text (asks.Diff from to) = codes "diff " ++ (decimal from ++ 32 ∷ decimal to)
 ask_text (asks.Without starter) = codes "without " ++ decimal starter
 ask_text (asks.Why step) = codes "why " ++ step_text step
 ask_text asks.WhyRefused = codes "why"
 ask_text asks.Owns = codes "owns"
 ask_text (asks.OwnsOf starter) = codes "owns " ++ decimal starter
+ask_text (asks.HoldsPipe number) = codes "holds pipe " ++ decimal number.0
+ask_text (asks.HoldsDesc number) = codes "holds desc " ++ decimal number.0
 ask_text asks.Cut = codes "cut"
 ask_text asks.Help = codes "help"
 ask_text (asks.HelpOn word) = codes "help " ++ word.now
@@ -60,9 +65,12 @@ FitsAsk version (asks.StepsBetween first last) = (first < 2 ^ 63) × (last < 2 ^
 FitsAsk version (asks.Try step) = FitsStep step × IsOf version step
 FitsAsk version (asks.When piece) = FitsPiece piece
 FitsAsk version (asks.Next piece) = FitsPiece piece
+FitsAsk version (asks.Diff from to) = (from < 2 ^ 63) × (to < 2 ^ 63)
 FitsAsk version (asks.Without starter) = starter < 2 ^ 16
 FitsAsk version (asks.Why step) = FitsStep step × IsOf version step
 FitsAsk version (asks.OwnsOf starter) = starter < 2 ^ 16
+FitsAsk version (asks.HoldsPipe number) = number.0 < 2 ^ 8
+FitsAsk version (asks.HoldsDesc number) = number.0 < 2 ^ 8
 FitsAsk version ask = Unit {0}
 
 -- nothing is asked for by a line that is spelled so
@@ -79,6 +87,17 @@ IsOfWords asks.Owns = Unit {0}
 IsOfWords asks.Cut = Unit {0}
 IsOfWords asks.Help = Unit {0}
 IsOfWords ask = ⊥
+
+-- it is one of those that have numbers behind their first word
+abbrev pub IsOfNumbers : Ask → Type 0
+IsOfNumbers (asks.StepsFrom first) = Unit {0}
+IsOfNumbers (asks.StepsBetween first last) = Unit {0}
+IsOfNumbers (asks.Diff from to) = Unit {0}
+IsOfNumbers (asks.Without starter) = Unit {0}
+IsOfNumbers (asks.OwnsOf starter) = Unit {0}
+IsOfNumbers (asks.HoldsPipe number) = Unit {0}
+IsOfNumbers (asks.HoldsDesc number) = Unit {0}
+IsOfNumbers ask = ⊥
 
 -- steps are to be let go of
 abbrev pub lets_go : Ask → Bool
@@ -121,6 +140,20 @@ abbrev pub IsWithout : ℕ → Option (List ℕ) → Answer → Type 0
 IsWithout s lines (answers.Without starter differences) = (starter ≡ s) × (option_map string_bytes differences ≡ lines)
 IsWithout s lines other = ⊥
 
+-- the state after so many steps differs by those lines from that after so many others, where both are there
+abbrev pub IsDiff : ℕ → ℕ → Option (List ℕ) → Answer → Type 0
+IsDiff from to lines (answers.Diff one other differences) = (one ≡ from) × (other ≡ to) × (option_map string_bytes differences ≡ lines)
+IsDiff from to lines other = ⊥
+
+-- who has a pipe open, or a description, where it is there
+abbrev pub IsPipeHeld : Option HeldPipe → Answer → Type 0
+IsPipeHeld held (answers.PipeHolders found) = option_map pipe_held found ≡ held
+IsPipeHeld held other = ⊥
+
+abbrev pub IsDescHeld : Option HeldDesc → Answer → Type 0
+IsDescHeld held (answers.DescHolders found) = option_map desc_held found ≡ held
+IsDescHeld held other = ⊥
+
 -- a page of help that says that
 abbrev pub IsPage : (List ℕ → Type 0) → Answer → Type 0
 IsPage says (answers.Page page) = says page.now
@@ -143,11 +176,14 @@ module _ (start : State) (h : List Accepted) where
   IsAnswer p refused (asks.Try step) found q = IsTrial (answer (view start h) step) (views_differing (view start h) (view_with start h step)) found × (q ≡ p)
   IsAnswer p refused (asks.When piece) found q = (change : Option Change) × (found ≡ answers.Change change) × FindsLast (shown_at start p.history piece) p change q
   IsAnswer p refused (asks.Next piece) found q = (change : Option Change) × (found ≡ answers.Change change) × FindsNext (shown_at start p.history piece) p change q
+  IsAnswer p refused (asks.Diff from to) found q = IsDiff from to (differing_between start p.history from to) found × (q ≡ p)
   IsAnswer p refused (asks.Without starter) found q = IsWithout starter (differing_without start h starter) found × (q ≡ p)
   IsAnswer p refused (asks.Why step) found q = (found ≡ answers.Why step (answer (view start h) step)) × (q ≡ p)
   IsAnswer p refused asks.WhyRefused found q = (found ≡ last_why refused) × (q ≡ p)
   IsAnswer p refused asks.Owns found q = (found ≡ answers.Owners) × (q ≡ p)
   IsAnswer p refused (asks.OwnsOf starter) found q = (found ≡ answers.OwnersOf starter) × (q ≡ p)
+  IsAnswer p refused (asks.HoldsPipe number) found q = IsPipeHeld (held_pipe (present (view start h)) number.0) found × (q ≡ p)
+  IsAnswer p refused (asks.HoldsDesc number) found q = IsDescHeld (held_desc (present (view start h)) number.0) found × (q ≡ p)
   IsAnswer p refused asks.Cut found q = (found ≡ answers.Position) × (q ≡ p)
   IsAnswer p refused asks.Help found q = IsPage (λ page. IsTrue (is_page page)) found × (q ≡ p)
   IsAnswer p refused (asks.HelpOn word) found q = IsPage (HelpsOn word.now) found × (q ≡ p)
@@ -204,10 +240,15 @@ position_asked p (asks.When piece) = 0
 position_asked p (asks.Next piece) = length p.history
 position_asked p ask = p.at
 
--- no step came or went, and the position is between the old one and that one
+-- a position may be left on the way to what is asked for: it is between the old one and that one, or, where two are compared, among the old one and both
+abbrev pub IsOnWay : Place → Ask → ℕ → Type 0
+IsOnWay p (asks.Diff from to) at = IsAmong p.at (compared_at p.history from to p.at from) (compared_at p.history from to p.at to) at
+IsOnWay p ask at = IsBetween p.at at (position_asked p ask)
+
+-- no step came or went, and the position is on that way
 pub record StopsShort (p : Place) (ask : Ask) (q : Place) : Type 0 where
   pub history : q.history ≡ p.history
-  pub between : IsBetween p.at q.at (position_asked p ask)
+  pub between : IsOnWay p ask q.at
 
 -- nothing changed, but the position at most, where the line asks for another one
 abbrev pub StopsShortOf : Origin → Place → List ℕ → Place → Type 0

@@ -1,5 +1,5 @@
 -- How each form prints answers.
-use Rattle.std.specs.Prelude.{◌≡◌, ℕ, List, [], ◌∷◌, ◌++◌, ◌≤◌, IfSome, None, Some, codes, string_bytes}
+use Rattle.std.specs.Prelude.{◌≡◌, ℕ, List, [], ◌∷◌, ◌++◌, ◌≤◌, IfSome, None, Some, codes, option_map, string_bytes}
 use Rattle.json.specs.Token.{Token}
 use Rattle.tx_base.specs.declared.steps.Accepted.{Accepted}
 use Rattle.tx_base.specs.declared.steps.Reply.{Reply}
@@ -13,8 +13,9 @@ use Rattle.tx_model.specs.View.{view}
 use Rattle.tx_script.specs.Debug.{first_steps, position_text, responded_in, response_text}
 use Rattle.tx_script.specs.JsonLines.{response_line}
 use Rattle.tx_shell.specs.Changes.{TellsFound}
+use Rattle.tx_shell.specs.Held.{desc_held, desc_members, desc_text, pipe_held, pipe_members, pipe_text}
 use Rattle.tx_shell.specs.Journals.{schedule_so_far, steps_listed, steps_made}
-use Rattle.tx_shell.specs.Members.{change_member, owner_member, owners_member, steps_member, why_members}
+use Rattle.tx_shell.specs.Members.{change_member, compared_members, not_compared_members, owner_member, owners_member, steps_member, why_members}
 use Rattle.tx_shell.specs.Origins.{Origin, start_in}
 use Rattle.tx_shell.specs.Owners.{or_no_transaction, owner_line, owner_lines}
 use Rattle.tx_shell.specs.Places.{Place}
@@ -75,11 +76,15 @@ TellsAnswer o h p answers.Schedule text = PrintsSchedule o p text
 TellsAnswer o h p (answers.Trial reply differences) text = text ≡ named_reply_text reply ++ 10 ∷ string_bytes differences
 TellsAnswer o h p (answers.Without starter None) text = text ≡ codes "no transaction\n"
 TellsAnswer o h p (answers.Without starter (Some differences)) text = text ≡ string_bytes differences
+TellsAnswer o h p (answers.Diff from to None) text = text ≡ codes "no place\n"
+TellsAnswer o h p (answers.Diff from to (Some differences)) text = text ≡ string_bytes differences
 TellsAnswer o h p (answers.Change found) text = TellsFound p.history p.at found text
 TellsAnswer o h p (answers.Why step reply) text = TellsWhy (start_in o) h step reply text
 TellsAnswer o h p answers.NothingRefused text = text ≡ codes "nothing was refused\n"
 TellsAnswer o h p answers.Owners text = text ≡ or_no_transaction (owner_lines (view (start_in o) h))
 TellsAnswer o h p (answers.OwnersOf starter) text = text ≡ or_no_transaction (owner_line (view (start_in o) h) starter)
+TellsAnswer o h p (answers.PipeHolders found) text = text ≡ pipe_text (option_map pipe_held found)
+TellsAnswer o h p (answers.DescHolders found) text = text ≡ desc_text (option_map desc_held found)
 TellsAnswer o h p (answers.Page page) text = text ≡ page.now
 
 -- what JSON has of an answer after the lines of its text
@@ -87,10 +92,14 @@ abbrev pub answer_members : State → List Accepted → Place → Answer → Lis
 answer_members start h p (answers.Steps first last) = steps_member p first last
 answer_members start h p (answers.Without starter None) = null_member (codes "transaction")
 answer_members start h p (answers.Without starter (Some differences)) = count_member (codes "transaction") starter
+answer_members start h p (answers.Diff from to None) = not_compared_members
+answer_members start h p (answers.Diff from to (Some differences)) = compared_members from to
 answer_members start h p (answers.Change found) = change_member p found
 answer_members start h p (answers.Why step reply) = why_members start h step reply
 answer_members start h p answers.Owners = owners_member (view start h)
 answer_members start h p (answers.OwnersOf starter) = owner_member (view start h) starter
+answer_members start h p (answers.PipeHolders found) = pipe_members (option_map pipe_held found)
+answer_members start h p (answers.DescHolders found) = desc_members (option_map desc_held found)
 answer_members start h p answer = []
 
 -- the position, those lines, and that

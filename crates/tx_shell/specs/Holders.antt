@@ -1,5 +1,5 @@
 -- Who has a side of a pipe open.
-use Rattle.std.specs.Prelude.{ℕ, zero, suc, Bool, false, List, [], ◌∷◌, ◌++◌, Option, Some, None, codes, option_map, slice_index_or, if◌then◌else◌}
+use Rattle.std.specs.Prelude.{ℕ, zero, suc, Bool, false, List, [], ◌∷◌, ◌++◌, Option, Some, None, codes, nat_eq, option_map, slice_index_or, if◌then◌else◌}
 use Rattle.std.specs.Fmt.{decimal}
 use Rattle.tx_base.specs.declared.limits.TheConstants.{DESCRIPTORS}
 use Rattle.tx_base.specs.declared.steps.Refusal.TheVariants.{Wait}
@@ -8,6 +8,7 @@ use Rattle.tx_base.specs.declared.steps.Reply.TheVariants.{No}
 use Rattle.tx_base.specs.declared.steps.Step.{Step}
 use Rattle.tx_base.specs.declared.steps.Step.TheVariants as steps
 use Rattle.tx_base.specs.declared.steps.Call.TheVariants as calls
+use Rattle.tx_desc.specs.Descriptions.{end_for}
 use Rattle.tx_json.specs.declared.holders.Holder.{Holder}
 use Rattle.tx_model.specs.Book.{is_read_side, is_write_side}
 use Rattle.tx_model.specs.Descriptors.{is_side}
@@ -15,6 +16,8 @@ use Rattle.tx_model.specs.Footprints.{footprint}
 use Rattle.tx_model.specs.State.{Description, Process, Side, ReadSide, State, WriteSide, has_object, side_in}
 use Rattle.tx_model.specs.View.{View, present}
 use Rattle.tx_shell.specs.Kinds.{limit_of, object_in}
+use Rattle.tx_shell.specs.declared.questions.holders.Sought.{Sought}
+use Rattle.tx_shell.specs.declared.questions.holders.Sought.TheVariants.{Desc, End}
 use Rattle.tx_shell.specs.declared.questions.kinds.Kind.TheVariants.{Pipes, Processes}
 use Rattle.tx_text.specs.Each.{each_text}
 
@@ -38,16 +41,34 @@ unfoldable pub each_below : {A : Type 0} → (ℕ → List A) → ℕ → List A
 each_below some zero = []
 each_below some (suc limit) = each_below some limit ++ some limit
 
--- descriptor f of process p, where it is open for that side of pipe k
-abbrev pub holder_at : State → ℕ → Side → ℕ → ℕ → List Holder
-holder_at S k side p f = if names_end S k side (named_by f (S.procs p)) then record { process = p; descriptor = f } ∷ [] else []
+-- whether what a descriptor names is description d
+abbrev pub names_desc : ℕ → Option ℕ → Bool
+names_desc d None = false
+names_desc d (Some named) = nat_eq named d
 
--- all descriptors of a process, and of all processes, that are
-abbrev pub holders_in : State → ℕ → Side → ℕ → List Holder
-holders_in S k side p = each_below (holder_at S k side p) DESCRIPTORS
+-- whether what a descriptor names is sought
+abbrev pub is_sought : State → Sought → Option ℕ → Bool
+is_sought S (End side k) name = names_end S k (end_for side) name
+is_sought S (Desc d) name = names_desc d.0 name
 
+-- descriptor f of process p, where what it names is sought
+abbrev pub holder_at : (Option ℕ → Bool) → State → ℕ → ℕ → List Holder
+holder_at sought S p f = if sought (named_by f (S.procs p)) then record { process = p; descriptor = f } ∷ [] else []
+
+-- all descriptors of a process, and of all processes, of which that is so
+abbrev pub holders_in : (Option ℕ → Bool) → State → ℕ → List Holder
+holders_in sought S p = each_below (holder_at sought S p) DESCRIPTORS
+
+abbrev pub holders_by : (Option ℕ → Bool) → State → List Holder
+holders_by sought S = each_below (holders_in sought S) (limit_of Processes)
+
+-- who has that side of pipe k open
 abbrev pub holders : State → Side → ℕ → List Holder
-holders S side k = each_below (holders_in S k side) (limit_of Processes)
+holders S side k = holders_by (λ name. names_end S k side name) S
+
+-- who has description d open
+abbrev pub desc_holders : State → ℕ → List Holder
+desc_holders S d = holders_by (λ name. names_desc d name) S
 
 -- the side for which a step that reads or writes waits: that of who could end its wait
 abbrev pub other_side : Step → Option Side

@@ -1,10 +1,12 @@
 pub mod Answers
 pub mod Blockers
 pub mod Changes
+pub mod Comparisons
 pub mod Cuts
 pub mod Differences
 pub mod Events
 pub mod Forms
+pub mod Held
 pub mod Holders
 pub mod Journals
 pub mod Kinds

@@ -80,6 +80,13 @@ blockers_members (first ∷ others) = list_member (codes "blockers") (each_token
 abbrev pub why_members : State → List Accepted → Step → Reply → List Token
 why_members S h step reply = reply_members reply ++ (blockers_members (blocked_by S h step reply) ++ holders_members (awaited_by (view S h) step reply))
 
+-- the two positions that are compared, or that none are
+abbrev pub compared_members : ℕ → ℕ → List Token
+compared_members from to = count_member (codes "from") from ++ count_member (codes "to") to
+
+abbrev pub not_compared_members : List Token
+not_compared_members = null_member (codes "from") ++ null_member (codes "to")
+
 -- the step of that number
 abbrev pub made_member : ℕ → Option Accepted → List Token
 made_member number None = null_member (codes "change")

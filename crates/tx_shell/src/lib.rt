@@ -13,12 +13,13 @@
 //!   of version 3 means is found as in a text (`meanings.rt`, over tx_plain), so it has comments, strings
 //!   and names as there; then it is read as a step, and else as what a talk is asked for (`asks.rt`).
 //! - `questions`: `trials.rt` finds what would be: it prints those pieces of the state that a step may
-//!   change, before it and after it, and by which lines they differ (`differences.rt`); `changes.rt` finds
-//!   the step that changed a piece of the state last, or changes it next (`Change`); `owners.rt` lists what
-//!   live transactions have reserved, by the kinds of objects that there are (`kinds.rt`); `reasons.rt`
-//!   finds why a step would be refused (`Reason`), with each object in its way (`Blocker`, `blockers.rt`),
-//!   the signals that have two answers (`signals.rt`), or what it waits for (`waits.rt`) and who could end
-//!   that wait (`holders.rt`).
+//!   change, before it and after it, and by which lines they differ (`differences.rt`); `comparing.rt`
+//!   goes to two positions and back, for how their states differ; `changes.rt` finds the step that changed
+//!   a piece of the state last, or changes it next (`Change`); `owners.rt` lists what live transactions
+//!   have reserved, by the kinds of objects that there are (`kinds.rt`); `reasons.rt` finds why a
+//!   step would be refused (`Reason`), with each object in its way (`Blocker`, `blockers.rt`), the signals
+//!   that have two answers (`signals.rt`), or what it waits for (`waits.rt`) and who could end that wait
+//!   (`holders.rt`); `held.rt` finds who has a pipe or a description open.
 //! - `answers`: what is asked for is done once, and has one `Answer` (`answer.rt`), printed in a `Form`:
 //!   as text (`as_text.rt`), or as a line of JSON (`as_json.rt`, and `as_json/` for the members that it has
 //!   beside the lines of the text, over tx_json). The debugger's commands are answered by tx_script, and so

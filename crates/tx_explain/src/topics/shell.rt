@@ -32,10 +32,13 @@ moved K    may the transaction that step K commits count as done at once?
 steps K L  lists steps K to L, and the position; steps K: from K on; steps: all
 text       prints the schedule of the steps up to the position, for txos replay
 try STEP   says what a step would be answered, and how the state would differ
+diff K L   says how the state at position L differs from that at position K
 without S  says how the state would differ without the transaction of S
 why STEP   says why a step would be refused, what is in its way, and since
            when, or what it waits for; why: of the step refused last
 owns S     says what the transaction of S has reserved; owns: what each has
+holds      pipe N: says which descriptors of which processes have each side of
+           pipe N open; desc N: which name description N
 when PIECE goes back to the step that changed a piece of the state last
 next PIECE goes on to the step that changes it next
 PIECE is   proc P, page P N, fd P F, ids P, pending P, queue P, desc D, pipe Q,
@@ -46,7 +49,7 @@ help WORD  says what a word of a step, a reply or a state means, as help N8
 quit       ends, as exit and the end of the input do
 ";
 
-const TOPICS: [Topic; 11] = [
+const TOPICS: [Topic; 13] = [
     Topic {
         word: "try",
         also: &[],
@@ -75,6 +78,20 @@ why: says why a step would be refused here, or what it would be answered.
 ",
     },
     Topic {
+        word: "diff",
+        also: &[],
+        text: "\
+diff: says how the states at two positions differ, and stays.
+  form     diff K L
+  K, L     the places after the first K and the first L accepted steps
+  answers  each line of the state at K that is gone at L, after -, or has come,
+           after +; nothing where none is; no place where K or L is not there
+  example  diff 0 1
+           - proc 2 parent 1 run point 0 ret 0
+           + proc 2 parent 1 run point 1 ret 2
+",
+    },
+    Topic {
         word: "without",
         also: &[],
         text: "\
@@ -99,6 +116,20 @@ owns: says what the live transactions have reserved.
            descriptions and of its pipes; no transaction where there is none
   example  owns
            owns 2 proc 2,4 desc 0 pipe -
+",
+    },
+    Topic {
+        word: "holds",
+        also: &[],
+        text: "\
+holds: says which descriptors of which processes have a pipe open.
+  form     holds pipe N, or holds desc N for one description
+  answers  a line for each side of pipe N, with its descriptors by process; for
+           description N its side and its pipe too; no pipe or no description
+           where there is none of that number
+  example  holds pipe 0
+           its read side is open: descriptor 0 of process 4
+           its write side is open: descriptor 1 of process 3, 1 of process 4
 ",
     },
     Topic {

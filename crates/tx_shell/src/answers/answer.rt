@@ -14,6 +14,8 @@ use crate::answers::helps::meaning;
 use crate::answers::reserving::reserve_walk;
 use crate::lines::asks::Ask;
 use crate::questions::changes::{Change, find_last, find_next};
+use crate::questions::comparing::compare;
+use crate::questions::held::{DescHolders, PipeHolders, desc_holders, pipe_holders};
 use crate::questions::trials::{try_at, without};
 use std::alloc::Global;
 use tx_base::{NoMemory, Reply, Step};
@@ -36,6 +38,9 @@ pub enum Answer {
     Schedule,
     /// The reply that a step would get, and by which lines the state after it would differ.
     Trial(Reply, String),
+    /// By which lines the state at the second of these positions differs from that at the first. Nothing
+    /// where they are not both there.
+    Diff(u64, u64, Option<String>),
     /// By which lines the state would differ without the transaction of this starter. Nothing where
     /// it has none.
     Without(u16, Option<String>),
@@ -49,6 +54,10 @@ pub enum Answer {
     Owners,
     /// What the live transaction of this starter has reserved.
     OwnersOf(u16),
+    /// Who has a pipe open. Nothing where it is not there.
+    PipeHolders(Option<PipeHolders>),
+    /// Who has a description open. Nothing where it is not there.
+    DescHolders(Option<DescHolders>),
     /// A page of help.
     Page(&'static str),
 }
@@ -84,11 +93,23 @@ pub fn find_answer(
         }
         Ask::When(piece) => Ok(Answer::Change(find_last(alloc, session, piece)?)),
         Ask::Next(piece) => Ok(Answer::Change(find_next(alloc, session, piece)?)),
+        Ask::Diff(from, to) => {
+            let lines = compare(alloc, session, from as usize, to as usize)?;
+            Ok(Answer::Diff(from, to, lines))
+        }
         Ask::Without(starter) => { Ok(Answer::Without(starter, without(alloc, session, starter)?)) }
         Ask::Why(step) => why(alloc, session, step),
         Ask::WhyRefused => why_refused(alloc, session, refused),
         Ask::Owns => Ok(Answer::Owners),
         Ask::OwnsOf(starter) => Ok(Answer::OwnersOf(starter)),
+        Ask::HoldsPipe(number) => {
+            let found = pipe_holders(alloc, session, number)?;
+            Ok(Answer::PipeHolders(found))
+        }
+        Ask::HoldsDesc(number) => {
+            let found = desc_holders(alloc, session, number)?;
+            Ok(Answer::DescHolders(found))
+        }
         Ask::Cut => Ok(Answer::Position),
         Ask::Help => Ok(Answer::Page(session_page())),
         Ask::HelpOn(word) => Ok(Answer::Page(meaning(word))),

@@ -9,12 +9,16 @@ ghost use Rattle.tx_shell.specs.Forms.{answer_members, IsPlaced, SaysJson, SaysL
 
 mod blockers;
 mod changes;
+mod compared;
+mod held;
 mod owners;
 mod steps;
 
 use crate::answers::answer::Answer;
 use crate::answers::as_json::blockers::put_blockers;
 use crate::answers::as_json::changes::put_change;
+use crate::answers::as_json::compared::{put_compared, put_not_compared};
+use crate::answers::as_json::held::{put_desc, put_pipe};
 use crate::answers::as_json::owners::{put_owner_alone, put_owners};
 use crate::answers::as_json::steps::put_steps;
 use crate::answers::as_text::answer_text;
@@ -50,12 +54,15 @@ pub fn answer_line(
         Answer::Trial(reply, lines) => trial_answer(alloc, position, reply, lines.as_str()),
         Answer::Steps(..)
         | Answer::Schedule
+        | Answer::Diff(..)
         | Answer::Without(..)
         | Answer::Change(_)
         | Answer::Why(..)
         | Answer::NothingRefused
         | Answer::Owners
         | Answer::OwnersOf(_)
+        | Answer::PipeHolders(_)
+        | Answer::DescHolders(_)
         | Answer::Page(_) => with_lines(alloc, version, session, answer),
     }
 }
@@ -91,6 +98,8 @@ fn put_members(
 {
     match answer {
         Answer::Steps(first, last) => put_steps(alloc, writer, session, *first, *last),
+        Answer::Diff(from, to, Some(_lines)) => put_compared(writer, *from, *to),
+        Answer::Diff(_, _, None) => put_not_compared(writer),
         Answer::Without(starter, Some(_lines)) => {
             put_count(writer, "transaction", u64::from(*starter))
         }
@@ -99,6 +108,8 @@ fn put_members(
         Answer::Why(step, reply) => put_why(alloc, writer, session, step, reply),
         Answer::Owners => put_owners(writer, session.machine()),
         Answer::OwnersOf(starter) => put_owner_alone(writer, session.machine(), Pid(*starter)),
+        Answer::PipeHolders(found) => put_pipe(writer, found),
+        Answer::DescHolders(found) => put_desc(writer, found),
         Answer::Walked(_)
         | Answer::Position
         | Answer::Schedule

@@ -12,6 +12,7 @@ use crate::answers::helps::text_as;
 use crate::answers::journals::{list_steps, position_line, print_schedule};
 use crate::lines::versions::TextVersion;
 use crate::questions::changes::tell_found;
+use crate::questions::held::{tell_desc, tell_pipe};
 use crate::questions::owners::{list_owner, list_owners};
 use crate::questions::reasons::tell_why;
 use std::alloc::Global;
@@ -43,11 +44,15 @@ pub fn answer_text(
         Answer::Trial(reply, differences) => trial_text(alloc, reply, differences.as_str()),
         Answer::Without(_, Some(differences)) => text_as(alloc, differences.as_str()),
         Answer::Without(_, None) => text_as(alloc, "no transaction\n"),
+        Answer::Diff(_, _, Some(differences)) => text_as(alloc, differences.as_str()),
+        Answer::Diff(_, _, None) => text_as(alloc, "no place\n"),
         Answer::Change(found) => tell_found(alloc, session, found),
         Answer::Why(step, reply) => tell_why(alloc, session, step, reply),
         Answer::NothingRefused => text_as(alloc, "nothing was refused\n"),
         Answer::Owners => list_owners(alloc, session),
         Answer::OwnersOf(starter) => list_owner(alloc, session, *starter),
+        Answer::PipeHolders(found) => tell_pipe(alloc, found),
+        Answer::DescHolders(found) => tell_desc(alloc, found),
         Answer::Page(page) => text_as(alloc, page),
     }
 }

@@ -3,12 +3,12 @@ ghost use Rattle.std.specs.Prelude.{◌≡◌, ◌≢◌, ◌<◌, ◌^◌, ◌+
 ghost use Rattle.std.specs.Fmt.{decimal};
 ghost use Rattle.tx_lines.specs.Schedule.{IsNoStep};
 ghost use Rattle.tx_lines.specs.declared.read.header.Version.{Version as TheVersion};
-ghost use Rattle.tx_shell.specs.Answers.{ask_text, lets_go, FitsAsk, IsNoAsk, IsOfWords};
+ghost use Rattle.tx_shell.specs.Answers.{ask_text, lets_go, FitsAsk, IsNoAsk, IsOfNumbers, IsOfWords};
 ghost use Rattle.tx_shell.specs.Pieces.{IsNoPiece};
 ghost use Rattle.tx_shell.specs.declared.lines.asks.Ask.{Ask};
 
-use crate::lines::pieces::read_piece;
-use tx_base::{Pid, Step};
+use crate::lines::pieces::{byte_behind, read_piece};
+use tx_base::{DescNo, Pid, PipeNo, Step};
 use tx_journal::Piece;
 use tx_lines::{Command, Version, read_command, read_pid, read_position, read_step, split_word};
 
@@ -33,6 +33,8 @@ pub enum Ask<'a> {
     When(Piece),
     /// To go on to the step that changes it next.
     Next(Piece),
+    /// To tell how the state at the second of these positions differs from that at the first.
+    Diff(u64, u64),
     /// To tell how the state would differ that an abort of the transaction of this starter would leave.
     Without(u16),
     /// To tell why a step would be refused.
@@ -43,6 +45,10 @@ pub enum Ask<'a> {
     Owns,
     /// To tell what the live transaction of this starter has reserved.
     OwnsOf(u16),
+    /// To tell who has this pipe open.
+    HoldsPipe(PipeNo),
+    /// To tell who has this description open.
+    HoldsDesc(DescNo),
     /// To let go of the steps after the position.
     Cut,
     /// To say what can be asked for.
@@ -72,8 +78,8 @@ pub fn read_ask(version: Version, line: &[u8]) -> Option<Ask<'_>>
     if let Some(ask) = read_words(line) {
         return Some(ask);
     }
-    if let Some(numbers) = behind(b"steps ", line) {
-        return read_steps(numbers);
+    if let Some(ask) = read_numbered(line) {
+        return Some(ask);
     }
     if let Some(words) = behind(b"try ", line) {
         return Some(Ask::Try(read_step(version, words)?));
@@ -86,12 +92,6 @@ pub fn read_ask(version: Version, line: &[u8]) -> Option<Ask<'_>>
     }
     if let Some(words) = behind(b"why ", line) {
         return Some(Ask::Why(read_step(version, words)?));
-    }
-    if let Some(word) = behind(b"without ", line) {
-        return Some(Ask::Without(read_starter(word)?));
-    }
-    if let Some(word) = behind(b"owns ", line) {
-        return Some(Ask::OwnsOf(read_starter(word)?));
     }
     Some(Ask::HelpOn(behind(b"help ", line)?))
 }
@@ -132,6 +132,33 @@ fn read_words(line: &[u8]) -> Option<Ask<'static>>
         return Some(Ask::Help);
     }
     None
+}
+
+/// What a line asks for that has numbers behind its first word.
+fn read_numbered(line: &[u8]) -> Option<Ask<'static>>
+    ensures found { IfSome result (λ ask. line.now ≡ ask_text ask) }
+    ensures fits { (version : TheVersion) → IfSome result (FitsAsk version) }
+    ensures none { result ≡ None → (version : TheVersion) (ask : Ask) →
+        IsOfNumbers ask → FitsAsk version ask → line.now ≢ ask_text ask }
+{
+    if let Some(numbers) = behind(b"steps ", line) {
+        return read_steps(numbers);
+    }
+    if let Some(numbers) = behind(b"diff ", line) {
+        let (from, to) = two_numbers(numbers)?;
+        return Some(Ask::Diff(from, to));
+    }
+    if let Some(word) = behind(b"without ", line) {
+        return Some(Ask::Without(read_starter(word)?));
+    }
+    if let Some(word) = behind(b"owns ", line) {
+        return Some(Ask::OwnsOf(read_starter(word)?));
+    }
+    if let Some(number) = byte_behind(b"holds pipe ", line) {
+        return Some(Ask::HoldsPipe(PipeNo(number)));
+    }
+    let number = byte_behind(b"holds desc ", line)?;
+    Some(Ask::HoldsDesc(DescNo(number)))
 }
 
 /// Which steps are to be listed, by one number or two.

@@ -64,7 +64,7 @@ fn pid_behind(front: &[u8], words: &[u8]) -> Option<Pid>
 }
 
 /// The number below 256 behind that front. Nothing where something else is there.
-fn byte_behind(front: &[u8], words: &[u8]) -> Option<u8>
+pub fn byte_behind(front: &[u8], words: &[u8]) -> Option<u8>
     ensures found { IfSome result (λ byte. words.now ≡ front.now ++ decimal byte) }
     ensures fits { IfSome result (λ byte. byte < 2 ^ 8) }
     ensures only { (byte : ℕ) → byte < 2 ^ 8 → words.now ≡ front.now ++ decimal byte →

@@ -10,8 +10,8 @@ ghost use Rattle.tx_model.specs.State.{Sending};
 ghost use Rattle.tx_model.specs.View.{present};
 ghost use Rattle.tx_proc.specs.Parts.{process_in};
 ghost use Rattle.tx_reserve.specs.Footprints.{IsSetOf};
-ghost use Rattle.tx_shell.specs.Holders.{awaited_by, holder_at, holders, holders_in, holders_line, is_end, named_by};
-ghost use Rattle.tx_shell.specs.Holders.{named_holders, names_end, next_text, other_side, side_holders, side_word};
+ghost use Rattle.tx_shell.specs.Holders.{awaited_by, holder_at, holders_by, holders_in, holders_line, is_end, is_sought, named_by};
+ghost use Rattle.tx_shell.specs.Holders.{named_holders, names_desc, names_end, next_text, other_side, side_holders, side_word};
 ghost use Rattle.tx_shell.specs.Kinds.{limit_of};
 ghost use Rattle.tx_shell.specs.Places.{view_at};
 ghost use Rattle.tx_shell.specs.declared.questions.kinds.Kind.TheVariants.{Pipes};
@@ -29,6 +29,15 @@ use tx_json::Holder;
 use tx_lines::put;
 use tx_proc::Proc;
 use tx_reserve::Objects;
+
+/// What descriptors may name, and by which they are sought.
+#[derive(Clone, Copy)]
+pub enum Sought {
+    /// A side of the pipe of a number.
+    End(Side, u16),
+    /// A description.
+    Desc(DescNo),
+}
 
 /// Each descriptor by which the wait of a step could end that would get this reply: those that are open
 /// for the other side of the pipe that it reads or writes, by rising processes and descriptors. Nothing
@@ -97,57 +106,57 @@ fn add_named(
     if !names.has(Kind::Pipes.object(number)) {
         return Ok(());
     }
-    add_holders(found, session, side, number)
+    add_holders(found, session, Sought::End(side, number))
 }
 
-/// Appends each descriptor that is open for a side of a pipe.
-fn add_holders(
+/// Appends each descriptor that names what is sought, by rising processes and descriptors.
+pub fn add_holders(
     found: &mut Vec<Holder>,
     session: &Session,
-    side: Side,
-    number: u16,
+    sought: Sought,
 ) -> Result<(), AllocError>
     ensures { OnOk result (found.new.items ≡ found.old.items
-        ++ holders (present (view_at session.now)) (end_for side) number) }
+        ++ holders_by (is_sought (present (view_at session.now)) sought)
+        (present (view_at session.now))) }
 {
     let parts = session.machine().parts();
     for process in 0..Kind::Processes.limit() {
-        add_holders_in(found, parts, side, number, process)?;
+        add_holders_in(found, parts, sought, process)?;
     }
     Ok(())
 }
 
-/// Appends each descriptor of a process that is open for a side of a pipe.
+/// Appends each descriptor of a process that names what is sought.
 fn add_holders_in(
     found: &mut Vec<Holder>,
     parts: &Parts,
-    side: Side,
-    number: u16,
+    sought: Sought,
     process: u16,
 ) -> Result<(), AllocError>
     ensures { (held : ℕ → List Sending) → OnOk result (found.new.items ≡ found.old.items
-        ++ holders_in (state_of held parts.now) number (end_for side) process) }
+        ++ holders_in (is_sought (state_of held parts.now) sought) (state_of held parts.now)
+        process) }
 {
     for descriptor in 0..DESCRIPTORS {
-        add_holder(found, parts, side, number, process, descriptor as u8)?;
+        add_holder(found, parts, sought, process, descriptor as u8)?;
     }
     Ok(())
 }
 
-/// Appends a descriptor of a process, where it is open for a side of a pipe.
+/// Appends a descriptor of a process, where it names what is sought.
 fn add_holder(
     found: &mut Vec<Holder>,
     parts: &Parts,
-    side: Side,
-    number: u16,
+    sought: Sought,
     process: u16,
     descriptor: u8,
 ) -> Result<(), AllocError>
     ensures { (held : ℕ → List Sending) → OnOk result (found.new.items ≡ found.old.items
-        ++ holder_at (state_of held parts.now) number (end_for side) process descriptor) }
+        ++ holder_at (is_sought (state_of held parts.now) sought) (state_of held parts.now)
+        process descriptor) }
 {
     let name = named_by(parts.proc(Pid(process)), descriptor as usize);
-    if names_end(parts, side, number, name) {
+    if is_sought(parts, sought, name) {
         found.push(Holder {
             process,
             descriptor,
@@ -161,6 +170,24 @@ fn named_by(slot: Option<&Proc>, descriptor: usize) -> Option<DescNo>
     ensures { number_in result ≡ named_by descriptor (process_in (option_copied slot.entry)) }
 {
     slot?.descriptors.get(descriptor)
+}
+
+/// Whether what a descriptor names is sought.
+fn is_sought(parts: &Parts, sought: Sought, name: Option<DescNo>) -> bool
+    ensures { (held : ℕ → List Sending) →
+        result ≡ is_sought (state_of held parts.now) sought (number_in name) }
+{
+    match sought {
+        Sought::End(side, number) => names_end(parts, side, number, name),
+        Sought::Desc(number) => names_desc(number, name),
+    }
+}
+
+/// Whether what a descriptor names is a description.
+fn names_desc(number: DescNo, name: Option<DescNo>) -> bool
+    ensures { result ≡ names_desc number.0 (number_in name) }
+{
+    name.is_some_and(|name| name == number)
 }
 
 /// Whether what a descriptor names is a side of a pipe.
@@ -227,7 +254,7 @@ fn put_open(
 }
 
 /// Appends the others.
-fn put_others(text: &mut String, others: &[Holder]) -> Result<(), AllocError>
+pub fn put_others(text: &mut String, others: &[Holder]) -> Result<(), AllocError>
     ensures { OnOk result (string_bytes text.new ≡ string_bytes text.old
         ++ each_text next_text others.now) }
 {
@@ -243,7 +270,7 @@ fn put_others(text: &mut String, others: &[Holder]) -> Result<(), AllocError>
 }
 
 /// The word for a side.
-fn word(side: Side) -> &'static str
+pub fn word(side: Side) -> &'static str
     ensures { result.now ≡ side_word (end_for side) }
 {
     match side {
