@@ -2,10 +2,9 @@
 ghost use Rattle.std.specs.Prelude.{◌≡◌, IfOk, option_map};
 ghost use Rattle.tx_expect.specs.Agreement as spec;
 
-use crate::comments::says;
+use crate::comments::told_in;
 use std::alloc::AllocError;
 use tx_base::Reply;
-use tx_lines::put;
 use tx_text::{error_name, put_named_reply, put_reply};
 
 /// Whether a reply is the expected one: as a report spells it, or an error with its name in place of its
@@ -15,35 +14,47 @@ use tx_text::{error_name, put_named_reply, put_reply};
 pub fn agrees(spelled: &mut String, expected: &[u8], reply: &Reply) -> Result<bool, AllocError>
     ensures { IfOk result (λ agrees. agrees ≡ spec.agrees expected.now reply.now) }
 {
-    if names(spelled, expected, error_in(reply))? {
+    if spells_at_once(spelled, expected, reply)? {
+        return Ok(true);
+    }
+    spells(spelled, told_in(expected), reply)
+}
+
+/// Whether what follows one space spells a reply. Most expectations do, and nothing else is looked at.
+fn spells_at_once(spelled: &mut String, expected: &[u8], reply: &Reply) -> Result<bool, AllocError>
+    ensures { IfOk result (λ spells. spells ≡ spec.spells_at_once expected.now reply.now) }
+{
+    match expected {
+        [b' ', text @ ..] => spells(spelled, text, reply),
+        _ => Ok(false),
+    }
+}
+
+/// Whether a text spells a reply: an error by its name, or any as a report or a session spells it.
+fn spells(spelled: &mut String, text: &[u8], reply: &Reply) -> Result<bool, AllocError>
+    ensures { IfOk result (λ spells. spells ≡ spec.spells text.now reply.now) }
+{
+    if names(text, error_in(reply)) {
         return Ok(true);
     }
     spelled.clear();
     put_reply(spelled, reply)?;
-    if says(expected, spelled.as_bytes()) {
+    if text == spelled.as_bytes() {
         return Ok(true);
     }
     spelled.clear();
     put_named_reply(spelled, reply)?;
-    Ok(says(expected, spelled.as_bytes()))
+    Ok(text == spelled.as_bytes())
 }
 
-/// Whether that is expected of an error by its name alone.
-fn names(
-    spelled: &mut String,
-    expected: &[u8],
-    error: Option<&'static str>,
-) -> Result<bool, AllocError>
-    ensures { IfOk result (λ names. names
-        ≡ spec.names expected.now (option_map (λ name. name.now) error.entry)) }
+/// Whether a text is that of an error with its name in place of its number.
+fn names(text: &[u8], error: Option<&'static str>) -> bool
+    ensures { result ≡ spec.names text.now (option_map (λ name. name.now) error.entry) }
 {
-    let Some(name) = error else {
-        return Ok(false);
-    };
-    spelled.clear();
-    put(spelled, "ok ")?;
-    put(spelled, name)?;
-    Ok(says(expected, spelled.as_bytes()))
+    match (text, error) {
+        ([b'o', b'k', b' ', rest @ ..], Some(name)) => rest == name.as_bytes(),
+        _ => false,
+    }
 }
 
 /// The name of the error that a reply is. Nothing where it is none.
