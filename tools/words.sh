@@ -124,7 +124,7 @@ crew_words() {
 excerpt_words() {
     local first second
     numbers_words picture --from 4096 --to 4096 "$@"
-    [ "${first:-1}" -le "${second:-4096}" ] || refuse picture "the step of --from must not be behind that of --to"
+    [ "${first:-1}" -le "${second:-4096}" ] || refuse picture "the step of --from must not be after that of --to"
 }
 
 # Answers the words and ends the script, or returns where they ask for a run.

@@ -32,8 +32,7 @@ PIPELINE = """2 map 0
 
 def compared(steps):
     """How the answers to steps compare, and what is told of each that differs."""
-    with Replay(read_recording(HEAD + steps)) as replay:
-        comparison = compare(replay.recording, replay.answers)
+    comparison = compare(read_recording(HEAD + steps))
     return str(comparison), [str(it) for it in comparison.differing]
 
 
@@ -100,10 +99,23 @@ class Comparison(unittest.TestCase):
                 changed += 1
         self.assertEqual(changed, 8)
 
+    def test_names_are_no_steps(self):
+        named = PIPELINE.replace("# 3 is cat\n", "# 3 is cat\nname 3 cat\n")
+        self.assertEqual(compared(named), compared(PIPELINE))
+
+    def test_the_program_compares(self):
+        with mock.patch("txos.checking.Replay") as replay:
+            self.assertEqual(compared(PIPELINE.replace("no N9", "ok 0"))[0][:7], "7 steps")
+        replay.assert_not_called()
+
     def test_more_steps_than_a_schedule_has(self):
-        steps = "2 close 3  # = ok -9  # 5 close\n" * 10_000
-        told = "10,000 steps as Linux, 0 with nothing to compare, 0 differ"
-        self.assertEqual(compared(steps), (told, []))
+        step = "2 close 3  # = ok -9  # 5 close\n"
+        others = "2 close 3  # = ok 0  # 5 close\n2 getpid\n9 getpid\n"
+        closed = "line 5 of the log: 2 close 3: Linux ok 0, here ok -9 (EBADF)"
+        for count in (4093, 4094, 10_000):
+            counts = f"{count:,} steps as Linux, 1 with nothing to compare, 2 differ"
+            told = [f"step {count + 1}, {closed}", f"step {count + 3}: 9 getpid: here no N1"]
+            self.assertEqual(compared(step * count + others), (counts, told))
 
 
 class Command(unittest.TestCase):
@@ -150,6 +162,9 @@ class Command(unittest.TestCase):
             (HEAD + "2 map 0\n2 map", 6),
             (HEAD + "2 map 0\nmap\n", 6),
             (HEAD + "2 map 0\n# 2 is sh\n\n2 stroe 0\n2 stroe 1\n", 8),
+            (HEAD + "# 2 is sh\nname 2 sh\n2 stroe 0\n", 7),
+            (HEAD + "2 map 0\nname 2\n", 6),
+            (HEAD + f"2 map 0\nname 2 {'a' * 17}\n", 6),
             (HEAD + "2 fork 3  # = ok 3  # 5 clone\n2 map 0 0  # 6 mmap\n", 6),
         ):
             status, output, told = self.check(text)

@@ -12,7 +12,7 @@ from txos.holders import Report
 from txos.losses import Harm, lost_signals, zombies_after, zombies_until
 from txos.recording import read_recording
 from txos.replays import Replay
-from txos.waits import Holder, find_chain, find_circle, holders_of, reason_of, waits_after
+from txos.waits import Holder, Moment, find_chain, find_circle, holders_of, reason_of, waits_after
 
 HEAD = "txos 3 schedule 2\n# recorded: sh -c x\n# log: 99 lines\n# factor: 1\n"
 # The setup, then steps 5 to 13: cat has the pipe at 0, and sleep and sh hold its write end.
@@ -327,34 +327,36 @@ class Chains(unittest.TestCase):
 
     def test_a_chain_ends_with_one_who_does_not_wait(self):
         with replayed(self.STEPS) as replay:
-            state, waits = replay.state(len(replay)), waits_after(replay, len(replay))
+            waits = waits_after(replay, len(replay))
+            moment = Moment.of(replay.at(len(replay)))
             self.assertEqual([it.process for it in waits], [4, 3, 2])
-            chain = find_chain(state, waits, waits[2])
+            chain = find_chain(moment, waits, waits[2])
             self.assertEqual([it.process for it in chain], [3, 4])
-            self.assertEqual(find_chain(state, waits, waits[0]), [])
+            self.assertEqual(find_chain(moment, waits, waits[0]), [])
             for wait in waits:
-                self.assertEqual(find_circle(state, waits, wait), [])
+                self.assertEqual(find_circle(moment, waits, wait), [])
 
     def test_the_shortest_circle(self):
         # Now 2 and 4 can write, and 5 can not.
         steps = self.STEPS.replace("2 close 1  # = ok 0  # 4 close\n", "")
         steps = steps.replace("4 close 1", "5 close 1")
         with replayed(steps) as replay:
-            state, waits = replay.state(len(replay)), waits_after(replay, len(replay))
-            self.assertEqual(find_circle(state, waits, waits[0]), [4, 4])
-            self.assertEqual(find_circle(state, waits, waits[2]), [2, 3, 4, 2])
+            waits = waits_after(replay, len(replay))
+            moment = Moment.of(replay.at(len(replay)))
+            self.assertEqual(find_circle(moment, waits, waits[0]), [4, 4])
+            self.assertEqual(find_circle(moment, waits, waits[2]), [2, 3, 4, 2])
 
     def test_reasons_and_holders(self):
         with replayed(self.STEPS) as replay:
-            state = replay.state(len(replay))
-            reason = reason_of(state, replay.step(9))
+            moment = Moment.of(replay.at(len(replay)))
+            reason = reason_of(moment, replay.step(9))
             self.assertEqual((reason.call, reason.pipe), ("read", 0))
             self.assertEqual(reason.holders, [Holder(5, (1,))])
-            reason = reason_of(state, replay.step(11))
+            reason = reason_of(moment, replay.step(11))
             self.assertEqual(
                 (reason.call, reason.pipe, reason.holders), ("waitpid", None, [Holder(3, ())])
             )
-            readers = [it.process for it in holders_of(state, 0, "read")]
+            readers = [it.process for it in holders_of(moment, 0, "read")]
             self.assertEqual(readers, [2, 3, 4, 5])
 
 

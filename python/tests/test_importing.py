@@ -3,13 +3,14 @@
 Each recording is answered by the program too, and each answer has to be the host's.
 """
 
+import re
 import unittest
 
 from txos.faults import Fault
 from txos.host.importing import make_recording
 from txos.host.strace import read_log
 from txos.kernel import Kernel, Refused
-from txos.recording import read_recording
+from txos.recording import Naming, Recording, Step, read_recording
 
 ROOT = '7 execve("/bin/sh", ["sh", "-c", "a b"], 0x7ffc /* 9 vars */) = 0'
 END = "7 +++ exited with 0 +++"
@@ -24,6 +25,11 @@ def record(*lines, is_short=False):
     made = make_recording(read_log(text), len(text), is_short, lambda count: None)
     assert read_recording(made.text()) == made
     return made
+
+
+def naming_lines(made):
+    """The lines of a recording that say what its processes are."""
+    return [it for it in made.text().splitlines() if re.match(r"# \d+ is |name ", it)]
 
 
 def answer(kernel, step):
@@ -697,6 +703,44 @@ class Processes(Recorded):
             [(2, "sh -c 'a b'"), (3, "tr a 'A B'"), (4, "sh -c 'a b' (forked)"), (3, "cat")],
         )
         self.assertEqual(made.steps[made.names[1].index - 1].text, "2 fork 3")
+        self.assertEqual(
+            naming_lines(made),
+            [
+                "# 2 is sh -c 'a b'",
+                "name 2 sh",
+                "# 3 is tr a 'A B'",
+                "name 3 cat",
+                "# 4 is sh -c 'a b' (forked)",
+                "name 4 sh",
+                "# 3 is cat",
+            ],
+        )
+
+    def test_a_number_that_is_forked_again_has_another_name(self):
+        fork, refused = Step(2, "fork 3", "ok 3"), Step(2, "fork 3", "no N4")
+        steps = [fork, refused, Step(3, "exit 0"), Step(2, "waitpid 3 wait"), fork]
+        names = [Naming(1, 3, "a"), Naming(2, 3, "'/bin/b \u00e9' c"), Naming(5, 3, "d" * 20)]
+        made = Recording("a", 1, steps=steps, names=names)
+        self.assertEqual(read_recording(made.text()), made)
+        self.assertEqual(
+            naming_lines(made),
+            [
+                "# 3 is a",
+                "name 3 b___",
+                "# 3 is '/bin/b \u00e9' c",
+                f"# 3 is {'d' * 20}",
+                f"name 3 {'d' * 16}",
+            ],
+        )
+
+    def test_a_command_without_a_name(self):
+        made = Recording("a", 1, names=[Naming(0, 2, "'' x"), Naming(0, 3, "cat")])
+        self.assertEqual(naming_lines(made), ["# 2 is '' x", "# 3 is cat", "name 3 cat"])
+
+    def test_a_line_has_at_most_the_bytes_that_the_program_takes(self):
+        made = Recording("a", 1, names=[Naming(0, 2, "\u00e9" * 400)])
+        longest = max(made.text().encode("utf-8").split(b"\n"), key=len)
+        self.assertEqual(longest.decode("utf-8"), "# 2 is " + "\u00e9" * 252)
 
     def test_a_child_begins_before_its_fork_has_ended(self):
         self.check(

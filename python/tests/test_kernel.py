@@ -252,6 +252,7 @@ class Answers(unittest.TestCase):
         self.steps("3 sys_xbegin", "2 sys_xbegin", "2 pipe 0 1 2")
         owned = {2: Owned((2,), (1, 2), (0,)), 3: Owned((3,), (), ())}
         self.assertEqual(self.kernel.owns(), owned)
+        self.assertEqual(self.kernel.owns().names, {})
         self.assertEqual(self.kernel.why("2 getpid"), "2 getpid: it would be answered ok 2")
         lines = self.kernel.why("4 pipe 0 3 4").splitlines()
         self.assertEqual(lines[0], "4 pipe 0 3 4: it would be answered no N4")
@@ -386,6 +387,65 @@ class Ends(unittest.TestCase):
             file.write(text.replace("read", "echo 'an unproved run' >&2; read", 1))
         with redirect_stderr(StringIO()) as told, Kernel(program=self.program):
             self.assertEqual(told.getvalue(), "an unproved run\n")
+
+
+class Names(unittest.TestCase):
+    """The names of processes, from a program that answers as written here."""
+
+    NAMES = '"names":[{"process":2,"name":"sh"},{"process":4,"name":"tr"}]'
+
+    def setUp(self):
+        folder = tempfile.TemporaryDirectory()
+        self.addCleanup(folder.cleanup)
+        self.program = os.path.join(folder.name, "txos")
+        self.lines = Path(folder.name, "lines")
+
+    def kernel(self, *answers):
+        """A kernel of a program that keeps each line, and gives these answers in turn."""
+        with open(self.program, "w", encoding="utf-8") as file:
+            file.write("#!/bin/sh\n")
+            for answer in ('{"at":0}', *answers):
+                file.write(f"read -r line; echo \"$line\" >>{self.lines}; echo '{answer}'\n")
+            file.write("read -r line\n")
+        os.chmod(self.program, 0o700)
+        made = Kernel(program=self.program)
+        self.addCleanup(made.close)
+        return made
+
+    def test_a_name_is_given(self):
+        self.kernel('{"at":0}').name(4, "tr")
+        self.assertEqual(self.lines.read_text().splitlines()[1:], ["name 4 tr"])
+
+    def test_a_name_that_is_none(self):
+        kernel = self.kernel('{"error":"column 8: a/b: a name has 1 to 16 letters"}')
+        with self.assertRaises(BadLine) as told:
+            kernel.name(4, "a/b")
+        self.assertEqual(told.exception.column, 8)
+        with self.assertRaises(BadLine):
+            kernel.name(4, "tr\n2 getpid")
+
+    def test_answers_with_names(self):
+        change = '"change":{"step":1,"worker":1,"text":"4 getpid","reply":"ok","ret":4}'
+        kernel = self.kernel(
+            f'{{"at":1,"lines":["a (tr)","b"],{self.NAMES}}}',
+            f'{{"at":1,"lines":[],"owners":[{{"starter":2,"procs":[2,4],"descs":[],"pipes":[0]}}],'
+            f"{self.NAMES}}}",
+            f'{{"at":1,"lines":["at 1: 4 getpid (tr)","- a","+ b"],{change},{self.NAMES}}}',
+            f'{{"at":1,"lines":["at 1: 4 getpid (tr)","- a","+ b"],{change},{self.NAMES}}}',
+            '{"at":1,"lines":[],"readers":[{"process":4,"descriptor":0}],"writers":[],'
+            f"{self.NAMES}}}",
+            '{"at":1,"lines":[],"pipe":0,"side":"read","holders":[{"process":4,"descriptor":0}],'
+            f"{self.NAMES}}}",
+        )
+        names = {2: "sh", 4: "tr"}
+        why = kernel.why("4 getpid")
+        self.assertEqual((why, why.names), ("a (tr)\nb", names))
+        owns = kernel.owns()
+        self.assertEqual((owns, owns.names), ({2: Owned((2, 4), (), (0,))}, names))
+        found = Found(("a",), ("b",), 1, "4 getpid", names)
+        self.assertEqual((kernel.when("proc 4"), kernel.next("proc 4")), (found, found))
+        self.assertEqual(kernel.holds_pipe(0), PipeHolders({4: (0,)}, {}, names))
+        self.assertEqual(kernel.holds_desc(1), DescHolders(0, "read", {4: (0,)}, names))
 
 
 class Finds(unittest.TestCase):

@@ -11,7 +11,7 @@ from xml.etree import ElementTree
 import txos.command
 from txos.faults import Fault
 from txos.picture.choosing import Part, choose, choose_part, part_of
-from txos.picture.drawing import MOST_STEPS, Name, Row, draw
+from txos.picture.drawing import MOST_STEPS, draw
 from txos.pictures import draw_choice
 from txos.recording import read_recording
 from txos.replays import Replay, is_refused
@@ -121,9 +121,16 @@ class Picture:
         return [it for it in self.root.iter(f"{SVG}text") if it.get("class") == kind]
 
     def names(self):
-        """The short name and the title of each process."""
-        titles = {self.columns[it.get("x")]: it.find(f"{SVG}title") for it in self._texts("name")}
-        return {process: (it.tail, it.text) for process, it in titles.items()}
+        """The short name and the title of each process, at the top."""
+        names = [it for it in self._texts("name") if it.get("y") == "38"]
+        titles = {self.columns[it.get("x")]: it.find(f"{SVG}title") for it in names}
+        return {process: (it.tail.strip(), it.text) for process, it in titles.items()}
+
+    def names_below(self, process):
+        """Each name of a process with its row: 0 at the top, 41 in the heads before that row."""
+        names = [it for it in self._texts("name") if self.columns[it.get("x")] == process]
+        places = sorted((float(it.get("y")), it.find(f"{SVG}title").tail.strip()) for it in names)
+        return [(int(row_at(y)), name) for y, name in places]
 
     def rows(self):
         """Of each mark: the row, the process, and whether it is refused."""
@@ -174,12 +181,15 @@ def passages(replay):
 class Drawing(unittest.TestCase):
     """Rows, and what is in them."""
 
-    def drawn(self, rows, names=None, title="x", foot=()):
-        return Picture(draw(rows, names or {}, title, foot))
+    def drawn(self, lines, hidden=(), numbers=None, foot=()):
+        part = read_recording(HEAD + "".join(f"{it}\n" for it in lines))
+        numbers = numbers or range(1, len(part.steps) + 1)
+        shown = [it for it in numbers if it not in hidden]
+        return Picture(draw(part, numbers, shown, foot))
 
     def test_each_row_has_its_number_its_step_and_its_mark(self):
-        rows = [Row(7, "2 map 0"), Row(9, "2 fork 3"), Row(12, "3 deliver TERM")]
-        picture = self.drawn(rows)
+        texts = ["2 map 0", "2 fork 3", "3 deliver TERM"]
+        picture = self.drawn(texts, numbers=[7, 9, 12])
         self.assertEqual(picture.numbers, [7, 9, 12])
         steps = ["2 map 0 : ok 0", "2 fork 3 : ok 3", "3 deliver TERM : no N10"]
         self.assertEqual(picture.steps, steps)
@@ -188,20 +198,19 @@ class Drawing(unittest.TestCase):
     def test_a_hidden_row_has_nothing_and_no_height(self):
         texts = ["2 map 0", "2 fork 3", "3 map 1", "3 kill 2 TERM", "3 exit 0", "2 getpid"]
         for hidden in (set(), {1}, {1, 2}, {3}, {6}, {1, 3, 4, 6}, {1, 2, 3, 4, 5, 6}):
-            rows = [Row(it, text, it in hidden) for it, text in enumerate(texts, 1)]
-            picture = self.drawn(rows)
+            picture = self.drawn(texts, hidden)
             shown = [it for it in range(1, 7) if it not in hidden]
             self.assertEqual(picture.numbers, shown)
             self.assertEqual([row for row, _, _ in picture.rows()], list(range(1, len(shown) + 1)))
             self.assertEqual(len(picture.lines("signal")), 0 if 4 in hidden else 1)
             self.assertEqual(len(picture.lines("end")), 0 if 5 in hidden else 1)
-            full = self.drawn([Row(1, text) for text in texts])
+            full = self.drawn(texts)
             heights = [int(it.root.get("height")) for it in (full, picture)]
             self.assertEqual(heights[0] - heights[1], 24 * len(hidden))
 
     def test_lanes_of_hidden_forks_come_from_the_top(self):
         texts = ["2 fork 3", "2 getpid", "3 getpid", "3 exit 0", "2 getpid"]
-        picture = self.drawn([Row(it, text, it < 3) for it, text in enumerate(texts, 1)])
+        picture = self.drawn(texts, {1, 2})
         lanes = {process: rows for process, *rows in picture.lanes()}
         self.assertEqual(lanes[3][0], 0)
         self.assertEqual(int(lanes[3][1]), 2)
@@ -209,7 +218,7 @@ class Drawing(unittest.TestCase):
 
     def test_a_process_of_hidden_rows_has_no_lane(self):
         texts = ["2 fork 3", "3 exit 0", "2 getpid"]
-        picture = self.drawn([Row(it, text, it < 3) for it, text in enumerate(texts, 1)])
+        picture = self.drawn(texts, {1, 2})
         self.assertEqual([it[0] for it in picture.lanes()], [1, 2])
         self.assertEqual(picture.lines("end", "fork"), [])
 
@@ -233,25 +242,24 @@ class Drawing(unittest.TestCase):
             ({8}, {((2, 4), (3, 6))}),
             ({6, 8}, set()),
         ):
-            rows = [Row(it, text, it in hidden) for it, text in enumerate(texts, 1)]
-            self.assertEqual(self.drawn(rows).arrows(), arrows, hidden)
+            self.assertEqual(self.drawn(texts, hidden).arrows(), arrows, hidden)
 
     def test_boxes_end_in_the_rows_of_their_steps(self):
         texts = ["2 getpid", "2 sys_xbegin", "2 map 0", "2 map 1", "2 sys_xend", "2 getpid"]
-        picture = self.drawn([Row(it, text, it in (1, 3)) for it, text in enumerate(texts, 1)])
+        picture = self.drawn(texts, {1, 3})
         [box] = [it for it in picture.body.findall(f"{SVG}rect") if it.get("class") == "committed"]
         top, height = float(box.get("y")), float(box.get("height"))
         self.assertEqual([round((it - 52) / 24) for it in (top, top + height)], [1, 3])
 
     def test_a_box_of_hidden_rows_goes(self):
         texts = ["2 sys_xbegin", "2 map 0", "2 sys_xend", "2 getpid", "2 getpid"]
-        picture = self.drawn([Row(it, text, it < 5) for it, text in enumerate(texts, 1)])
+        picture = self.drawn(texts, {1, 2, 3, 4})
         self.assertEqual([it for it in picture.body.findall(f"{SVG}rect") if it.get("class")], [])
 
     def test_the_legend_has_boxes_where_the_picture_has_one(self):
         begins = ["2 getpid", "2 sys_xbegin"]
         for texts, has_boxes in ((begins, True), (begins[:1], False)):
-            picture = self.drawn([Row(it, text) for it, text in enumerate(texts, 1)])
+            picture = self.drawn(texts)
             legend = picture.legend
             marks = {it.get("class") for it in legend} - {None}
             self.assertLessEqual({"refused", "signal", "pipe", "accepted"}, marks)
@@ -272,24 +280,37 @@ class Drawing(unittest.TestCase):
             "3 sys_xend",
         ]
         for hidden, row, end in (((), 4, 7), ((1, 2, 5), 2, 4), ((3,), 3, 6)):
-            rows = [Row(it, text, it in hidden) for it, text in enumerate(texts, 1)]
-            stub, down = self.drawn(rows).lines("held")
+            stub, down = self.drawn(texts, hidden).lines("held")
             self.assertEqual([float(stub.get(y)) for y in ("y1", "y2")], [52 + 24 * row] * 2)
             self.assertEqual(float(down.get("y1")), 52 + 24 * row)
             self.assertEqual(round((float(down.get("y2")) - 52) / 24), end)
-        rows = [Row(it, text, it == 4) for it, text in enumerate(texts, 1)]
-        [down] = self.drawn(rows).lines("held")
+        [down] = self.drawn(texts, {4}).lines("held")
         self.assertEqual(float(down.get("y1")), 52 + 24 * 3.5)
 
     def test_names_with_the_whole_command_as_title(self):
-        names = {1: Name("outside", "others"), 2: Name("configure", "./configure --all\nmake")}
-        picture = self.drawn([Row(1, "2 fork 3")], names)
-        told = {1: ("outside", "others"), 2: ("config\u2026", "./configure --all\nmake")}
-        self.assertEqual(picture.names(), told)
+        picture = self.drawn(["# 2 is ./configure --all", "# 2 is /bin/configure x", "2 fork 3"])
+        commands = "./configure --all\n/bin/configure x"
+        self.assertEqual(picture.names(), {2: ("config..", commands)})
+
+    def test_a_child_forked_anew_has_its_name_below_its_fork_and_in_later_heads(self):
+        first = ["2 fork 3", "# 3 is sh", "3 exit 0", "2 waitpid 3 wait"]
+        later = ["2 getpid", "2 fork 3", "# 3 is ./configure", *["2 getpid"] * 40]
+        for hidden, names in (
+            ((), [(0, "sh"), (5, "config.."), (41, "config..")]),
+            ({1}, [(0, "sh"), (4, "config.."), (41, "config..")]),
+            ({4}, [(0, "sh"), (4, "config.."), (41, "config..")]),
+            ({6}, [(0, "sh"), (5, "config.."), (41, "config..")]),
+            (range(1, 5), [(0, "sh"), (1, "config.."), (41, "config..")]),
+            (range(1, 6), [(0, "config..")]),
+        ):
+            picture = self.drawn([*first, *later], hidden)
+            self.assertEqual(picture.names_below(3), names, hidden)
+            self.assertEqual(picture.steps[-1], "2 getpid : ok 2")
 
     def test_whatever_is_in_a_name_the_picture_is_xml_and_ascii(self):
         name = "<&>\"'\x1b\x00\ud800\uffff caf\u00e9 \U0001f600 ]]>"
-        text = draw([Row(1, "2 map 0")], {2: Name(name, name)}, name, [name])
+        part = read_recording(f"{HEAD}# 2 is {name}\n2 map 0\n".replace("sh -c x", name))
+        text = draw(part, [1], [1], [name])
         self.assertTrue(text.isascii())
         picture = Picture(text)
         clean = "<&>\"'\ufffd\ufffd\ufffd\ufffd caf\u00e9 \U0001f600 ]]>"
@@ -297,9 +318,13 @@ class Drawing(unittest.TestCase):
         self.assertEqual(picture.root.find(f"{SVG}title").text, clean)
         self.assertEqual(picture.foot, clean)
 
+    def test_a_command_of_many_bytes(self):
+        picture = self.drawn([f"# 2 is sh {500 * chr(233)}", "2 map 0"])
+        self.assertEqual(picture.names()[2], ("sh", f"sh {500 * chr(233)}"))
+
     def test_a_long_foot_is_wrapped_and_has_room(self):
-        without = self.drawn([Row(1, "2 map 0")])
-        picture = self.drawn([Row(1, "2 map 0")], foot=["word " * 60, "end"])
+        without = self.drawn(["2 map 0"])
+        picture = self.drawn(["2 map 0"], foot=["word " * 60, "end"])
         self.assertEqual(picture.foot, ("word " * 60) + "end")
         feet = [float(it.get("y")) for it in picture._texts("foot")]
         self.assertGreater(min(feet), float(without.root.get("height")) - 16)
@@ -310,7 +335,7 @@ class Drawing(unittest.TestCase):
 
     def test_too_many_steps(self):
         with self.assertRaises(Fault):
-            draw([Row(it, "2 getpid") for it in range(MOST_STEPS + 1)], {}, "x", [])
+            self.drawn(["2 getpid"] * (MOST_STEPS + 1))
 
 
 class Choices(unittest.TestCase):
@@ -356,7 +381,7 @@ class Choices(unittest.TestCase):
         heads = [round(float(it.get("y"))) for it in picture._texts("head") if it.text == "2"]
         self.assertEqual(heads, [28 + 1008 * it for it in range(8)])
         names = [round(float(it.get("y"))) for it in picture._texts("name") if it.get("x") == "144"]
-        self.assertEqual(names, [it + 14 for it in heads])
+        self.assertEqual(names, [it + 10 for it in heads])
 
     def test_each_step_of_a_whole_part(self):
         with replayed(PIPELINE) as replay:
@@ -381,6 +406,22 @@ class Choices(unittest.TestCase):
             fork = number_of(replay, "2 fork 3")
             part = Picture(draw_choice(replay, choose_part(replay, Part(1, fork, False))))
         self.assertEqual(part.names()[3], ("seq", "seq 3"))
+
+    def test_each_process_of_a_number_has_its_own_name(self):
+        steps = LOOP
+        for name in ("head", "tr", "wc"):
+            steps = steps.replace("# 3 is cat", f"# 3 is {name} -c", 1)
+        with replayed(steps) as replay:
+            forks = [it for it in range(1, len(replay)) if replay.step(it).text == "2 fork 3"]
+            for last, names in ((forks[1] - 1, ["head"]), (len(replay), ["head", "tr", "wc"])):
+                choice = choose_part(replay, Part(1, last, False))
+                rows = [0, *(choice.shown.index(it) + 1 for it in forks[1 : len(names)])]
+                again = [(it, names[-1]) for it in range(41, len(choice.shown) + 1, 40)]
+                picture = Picture(draw_choice(replay, choice))
+                self.assertEqual(picture.names_below(3), [*zip(rows, names), *again])
+            choice = choose_part(replay, Part(forks[2], len(replay), False))
+            picture = Picture(draw_choice(replay, choice))
+        self.assertEqual(picture.names_below(3), [(0, "tr"), (1, "wc")])
 
     @FEW_STEPS
     def test_no_state_is_looked_at_after_what_fits(self):

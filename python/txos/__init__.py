@@ -20,6 +20,7 @@ from .kernel import (
     Moved,
     NoProgram,
     Owned,
+    Owns,
     Page,
     PipeHolders,
     Process,
@@ -33,6 +34,7 @@ from .kernel import (
     Trial,
     TxosError,
     Undelivered,
+    Why,
     find_program,
 )
 
@@ -51,6 +53,7 @@ __all__ = [
     "Moved",
     "NoProgram",
     "Owned",
+    "Owns",
     "Page",
     "PipeHolders",
     "Process",
@@ -64,6 +67,7 @@ __all__ = [
     "Trial",
     "TxosError",
     "Undelivered",
+    "Why",
     "find_program",
 ]
 

@@ -5,16 +5,23 @@ from __future__ import annotations
 import argparse
 import errno
 import re
+import subprocess
+import sys
 from dataclasses import dataclass
-from typing import List, Optional
+from typing import Dict, List, Optional
 
-from .recording import ENDED, Recording, Step
-from .replays import is_refused, replay_file
+from .kernel import find_program
+from .recording import ENDED, HEADER, Recording, Step
+from .replays import Replay, is_refused, make_of_file
 from .wording import counted
 
 _ABOUT = """Makes the steps of a recording, and prints each whose answer is not Linux's. A step that
 Linux has no answer for must only be accepted."""
 _ERROR = re.compile(r"ok -(\d+)")
+# What `txos expect` says of a step with another answer, and at last, where it has judged a text.
+_UNMET = re.compile(r"line (\d+): .*, got (.+?)(?: E[A-Z0-9]+)?")
+_COUNTS = re.compile(r"\d+ as expected, .*")
+_ACCEPTED = "accepted"  # is no answer, so that `txos expect` tells what the step is answered
 
 
 @dataclass(frozen=True)
@@ -53,22 +60,51 @@ class Comparison:
         )
 
 
-def compare(recording: Recording, answers: List[str]) -> Comparison:
-    """Compares what each step was answered with what Linux answered."""
-    same, uncompared, differing = 0, 0, []
-    for number, (step, answer) in enumerate(zip(recording.steps, answers), 1):
-        if _is_as(step.expected, answer):
-            same += 1
-        elif step.expected is None and not is_refused(answer):
+def compare(recording: Recording, program: Optional[str] = None) -> Comparison:
+    """Compares what each step is answered with what Linux answered.
+
+    Raises `BadStep` for a step that the program does not read.
+    """
+    unmet = _unmet_by_expect(recording, program)
+    if unmet is None:
+        unmet = _unmet_by_shell(recording, program)
+    uncompared, differing = 0, []
+    for number, answer in unmet.items():
+        step = recording.steps[number - 1]
+        if step.expected is None and not is_refused(answer):
             uncompared += 1
-        else:
+        elif step.expected != ENDED or not answer.startswith("committed"):
+            # In a trial the end of a process may commit a transaction.
             differing.append(Differing(number, step, answer))
+    same = len(recording.steps) - uncompared - len(differing)
     return Comparison(same, uncompared, differing)
 
 
-def _is_as(expected: Optional[str], answer: str) -> bool:
-    """Whether an answer is Linux's. In a trial the end of a process may commit a transaction."""
-    return expected == answer or (expected == ENDED and answer.startswith("committed"))
+def _unmet_by_expect(recording: Recording, program: Optional[str]) -> Optional[Dict[int, str]]:
+    """What each step is answered, by its number, that is not answered as expected.
+
+    None where `txos expect` can't read the steps; it reads at most 4,096.
+    """
+    lines = (f"{it.text} # = {it.expected or _ACCEPTED}" for it in recording.steps)
+    ran = subprocess.run(
+        [find_program(program), "expect"],
+        input="".join(f"{it}\n" for it in (HEADER, *lines)).encode("utf-8", "replace"),
+        capture_output=True,
+        check=False,
+    )
+    *told, counts = ran.stdout.decode("utf-8", "replace").split("\n")[:-1] or [""]
+    if not _COUNTS.fullmatch(counts):
+        return None
+    sys.stderr.write(ran.stderr.decode("utf-8", "replace"))  # that the program is unproved
+    found = filter(None, map(_UNMET.fullmatch, told))
+    return {int(it[1]) - 1: it[2] for it in found}  # the header is line 1
+
+
+def _unmet_by_shell(recording: Recording, program: Optional[str]) -> Dict[int, str]:
+    """The same of any number of steps."""
+    with Replay(recording, program) as replay:
+        answers = enumerate(zip(recording.steps, replay.answers), 1)
+        return {number: answer for number, (it, answer) in answers if it.expected != answer}
 
 
 def add_command(commands: argparse._SubParsersAction) -> None:
@@ -81,8 +117,7 @@ def add_command(commands: argparse._SubParsersAction) -> None:
 
 
 def _run(args: argparse.Namespace) -> int:
-    with replay_file(args.file) as replay:
-        compared = compare(replay.recording, replay.answers)
+    compared = make_of_file(args.file, compare)
     for it in compared.differing:
         print(it)
     print(compared)

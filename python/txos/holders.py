@@ -15,6 +15,7 @@ from .replays import Replay, replay_file
 from .waits import (
     OTHER_SIDE,
     Holder,
+    Moment,
     Reason,
     Wait,
     breaking_signal,
@@ -61,6 +62,9 @@ class Report:
         before = f", before {self._replay.step(self._count + 1).text}" if self._is_forced else ""
         return moment + before
 
+    def _at(self, count: int) -> Moment:
+        return Moment.of(self._replay.at(count))
+
     def _label(self, process: int, count: int) -> str:
         return self._replay.recording.label(process, count)
 
@@ -74,13 +78,13 @@ class Report:
     # Pipes.
 
     def _pipes(self) -> Iterator[str]:
-        state = self._replay.state(self._count)
-        numbers = [it for it in state.pipes if it != FILE_PIPE]
+        moment = self._at(self._count)
+        numbers = [it for it in moment.pipes if it != FILE_PIPE]
         if not numbers:
             yield f"No pipe is open {self._then()}."
         for number in numbers:
-            sides = (self._side(state, number, side, self._count) for side in (READ, WRITE))
-            yield f"pipe {number}, {self._size(state, number)}: {'; '.join(sides)}"
+            sides = (self._side(moment, number, side) for side in (READ, WRITE))
+            yield f"pipe {number}, {self._size(moment.state, number)}: {'; '.join(sides)}"
 
     def _size(self, state: State, pipe: int) -> str:
         """How many bytes a pipe holds."""
@@ -89,9 +93,9 @@ class Report:
             return "empty"
         return counted(count, "byte" if factor == 1 else f"unit of {factor} bytes")
 
-    def _side(self, state: State, pipe: int, side: str, count: int) -> str:
-        holders = holders_of(state, pipe, side)
-        held = f"held by {self._named(holders, count)}" if holders else "held by nobody"
+    def _side(self, moment: Moment, pipe: int, side: str) -> str:
+        holders = holders_of(moment, pipe, side)
+        held = f"held by {self._named(holders, self._count)}" if holders else "held by nobody"
         return f"{side} side {held}"
 
     def _named(self, holders: List[Holder], count: int) -> str:
@@ -137,7 +141,7 @@ class Report:
 
     def _call(self, wait: Wait, waits: List[Wait], count: int) -> Iterator[str]:
         """A wait, of all those after so many steps."""
-        reason = reason_of(self._replay.state(count), wait.step)
+        reason = reason_of(self._at(count), wait.step)
         yield f"{self._place(wait.number)}: {self._waiter(wait, reason, count)}"
         yield f"  it waited {self._until(wait, count)}"
         yield from self._enders(wait, waits, count)
@@ -189,15 +193,15 @@ class Report:
 
     def _enders(self, wait: Wait, waits: List[Wait], count: int) -> Iterator[str]:
         """Who could end a wait, and for whom these wait themselves."""
-        state = self._replay.state(count)
-        reason = reason_of(state, wait.step)
+        moment = self._at(count)
+        reason = reason_of(moment, wait.step)
         if reason.pipe is not None:
             yield f"  {self._held(reason, count)}"
-        for link in find_chain(state, waits, wait):
-            its = reason_of(state, link.step)
+        for link in find_chain(moment, waits, wait):
+            its = reason_of(moment, link.step)
             held = f"; {self._held(its, count)}" if its.pipe is not None else ""
             yield f"  {self._waiter(link, its, count)} (step {link.number}){held}"
-        circle = find_circle(state, waits, wait)
+        circle = find_circle(moment, waits, wait)
         if len(circle) == 2:
             yield f"  a circle: {self._label(wait.process, count)} waits for itself"
         elif circle:

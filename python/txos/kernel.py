@@ -36,7 +36,7 @@ import sys
 import tempfile
 from dataclasses import dataclass, field
 from pathlib import Path
-from typing import IO, Any, Iterable, Iterator, Sequence
+from typing import IO, Any, Dict, Iterable, Iterator, Sequence
 
 _Bytes = bytes  # for classes with a field that is called `bytes`
 
@@ -169,12 +169,16 @@ class Trial(Difference):
     refused: Refused | None
 
 
+# In what follows `names` has the names that were given by `Kernel.name`, by their processes.
+
+
 @dataclass(frozen=True)
 class Found(Difference):
     """The step that changed a piece of the state, and by which lines the piece differs."""
 
     number: int
     step: str
+    names: dict[int, str] = field(default_factory=dict)
 
 
 @dataclass(frozen=True)
@@ -203,12 +207,32 @@ class Owned:
     pipes: tuple[int, ...]
 
 
+class Owns(Dict[int, Owned]):
+    """What each live transaction has reserved, by the process that began it."""
+
+    def __init__(self, owned: dict[int, Owned], names: dict[int, str] | None = None) -> None:
+        super().__init__(owned)
+        self.names = names or {}
+
+
+class Why(str):
+    """Why a step is answered as it is, as a text to be read."""
+
+    names: dict[int, str]
+
+    def __new__(cls, text: str, names: dict[int, str] | None = None) -> Why:
+        made = super().__new__(cls, text)
+        made.names = names or {}
+        return made
+
+
 @dataclass(frozen=True)
 class PipeHolders:
     """Who has the sides of a pipe open: the descriptors of each process."""
 
     readers: dict[int, tuple[int, ...]]
     writers: dict[int, tuple[int, ...]]
+    names: dict[int, str] = field(default_factory=dict)
 
 
 @dataclass(frozen=True)
@@ -218,6 +242,7 @@ class DescHolders:
     pipe: int
     side: str
     holders: dict[int, tuple[int, ...]]
+    names: dict[int, str] = field(default_factory=dict)
 
 
 # A state is made of light classes, and not of the objects that were read: a piece is found by its
@@ -438,6 +463,13 @@ class Kernel:
         """Drops the steps after the position."""
         self.ask("cut")
 
+    def name(self, process: int, name: str) -> None:
+        """Gives a process a name of 1 to 16 letters, digits, `.`, `_`, `+` and `-`; it is no step.
+
+        What answers about processes has it in `names`. Raises `BadLine` where it is no such name.
+        """
+        self.ask(f"name {process} {name}")
+
     def state(self) -> State:
         """The state at the position."""
         return _read_state(self.ask("state")["state"])
@@ -467,31 +499,35 @@ class Kernel:
         lines = self._lines(f"without {starter}")
         return None if lines == ["no transaction"] else Difference(*_read_sides(lines))
 
-    def why(self, line: str | None = None) -> str:
+    def why(self, line: str | None = None) -> Why:
         """Why a step would be refused, as a text to be read, or else what it would be answered.
 
         Without a line it is the step that was refused last.
         """
-        return "\n".join(self._lines(f"why {line}" if line else "why"))
+        answer = self.ask(f"why {line}" if line else "why")
+        return Why("\n".join(answer["lines"]), _read_names(answer))
 
-    def owns(self) -> dict[int, Owned]:
+    def owns(self) -> Owns:
         """What each live transaction has reserved, by the process that began it."""
-        lines = [it.split() for it in self._lines("owns") if it != "no transaction"]
-        return {int(it[1]): Owned(*map(_read_numbers, it[3::2])) for it in lines}
+        answer = self.ask("owns")
+        owned = {it["starter"]: _read_owned(it) for it in answer["owners"]}
+        return Owns(owned, _read_names(answer))
 
     def holds_pipe(self, number: int) -> PipeHolders | None:
         """Who has the sides of a pipe open; None where there is no such pipe."""
         answer = self.ask(f"holds pipe {number}")
         if answer["readers"] is None:
             return None
-        return PipeHolders(*(_read_holders(answer[it]) for it in ("readers", "writers")))
+        sides = (_read_holders(answer[it]) for it in ("readers", "writers"))
+        return PipeHolders(*sides, _read_names(answer))
 
     def holds_desc(self, number: int) -> DescHolders | None:
         """Who has a description open; None where there is no such description."""
         answer = self.ask(f"holds desc {number}")
         if answer["holders"] is None:
             return None
-        return DescHolders(answer["pipe"], answer["side"], _read_holders(answer["holders"]))
+        holders = _read_holders(answer["holders"])
+        return DescHolders(answer["pipe"], answer["side"], holders, _read_names(answer))
 
     def when(self, piece: str) -> Found | None:
         """Goes back to after the step that changed a piece of the state last, as `page 2 0`.
@@ -545,9 +581,12 @@ class Kernel:
         return self.ask(line)["lines"]
 
     def _find(self, line: str) -> Found | None:
-        first, *lines = self._lines(line)
-        at, _, step = first.partition(": ")
-        return None if step == "no change" else Found(*_read_sides(lines), int(at.split()[1]), step)
+        answer = self.ask(line)
+        made = answer["change"]
+        if made is None:
+            return None
+        sides = _read_sides(answer["lines"])
+        return Found(*sides, made["step"], made["text"], _read_names(answer))
 
     def _exchange(self, lines: Sequence[bytes]) -> list[dict[str, Any]]:
         """Writes lines, and reads those that answer them."""
@@ -692,8 +731,12 @@ def _read_sides(lines: list[str]) -> tuple[tuple[str, ...], tuple[str, ...]]:
     return gone, come
 
 
-def _read_numbers(text: str) -> tuple[int, ...]:
-    return () if text == "-" else tuple(map(int, text.split(",")))
+def _read_owned(it: dict[str, Any]) -> Owned:
+    return Owned(*(tuple(it[part]) for part in ("procs", "descs", "pipes")))
+
+
+def _read_names(answer: dict[str, Any]) -> dict[int, str]:
+    return {it["process"]: it["name"] for it in answer.get("names", ())}
 
 
 def _read_holders(items: list[dict[str, int]]) -> dict[int, tuple[int, ...]]:

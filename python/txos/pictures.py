@@ -4,12 +4,14 @@ from __future__ import annotations
 
 import argparse
 import sys
-from typing import Dict, List
+from bisect import bisect_right
+from dataclasses import replace
+from typing import Sequence, Set
 
 from .files import write_whole
 from .picture.choosing import Choice, choose, choose_part, part_of
-from .picture.drawing import MOST_STEPS, Name, Row, draw
-from .recording import OUTSIDE, Recording, short_name
+from .picture.drawing import MOST_STEPS, draw
+from .recording import OUTSIDE, Naming, Recording
 from .replays import Replay, replay_file
 
 _ABOUT = f"""Draws the steps of a recording as SVG, with the names of its processes. A picture has
@@ -21,26 +23,23 @@ these need, or the first of them."""
 
 def draw_choice(replay: Replay, choice: Choice) -> str:
     """The picture of a choice of steps."""
-    shown = set(choice.shown)
-    rows = [Row(it, replay.step(it).text, it not in shown) for it in choice.made]
-    last = max(choice.made, default=0)
-    foot = [f"Recorded: {replay.recording.command}", *choice.about]
-    return draw(rows, _names(replay.recording, last), replay.recording.command, foot)
+    recording = replay.recording
+    foot = [f"Recorded: {recording.command}", *choice.about]
+    return draw(_part(recording, choice.made), choice.made, set(choice.shown), foot)
 
 
-def _names(recording: Recording, count: int) -> Dict[int, Name]:
-    """What each process is after so many steps, and what it was before."""
-    commands: Dict[int, List[str]] = {}
+def _part(recording: Recording, made: Sequence[int]) -> Recording:
+    """The steps that are made, with the names that their processes have until then."""
+    names = [Naming(0, OUTSIDE, recording.name(OUTSIDE))]
+    named: Set[int] = set()
+    last = max(made, default=0)
     for it in recording.names:
         # A child that shares memory until it executes a program is named some steps after its fork.
-        if it.index <= count or it.process not in commands:
-            commands.setdefault(it.process, []).append(it.command)
-    names = {
-        process: Name(short_name(found[-1]), "\n".join(dict.fromkeys(found)))
-        for process, found in commands.items()
-    }
-    names[OUTSIDE] = Name(recording.name(OUTSIDE), "all processes that were not recorded")
-    return names
+        if it.index <= last or it.process not in named:
+            named.add(it.process)
+            names.append(replace(it, index=bisect_right(made, it.index)))
+    steps = [recording.steps[it - 1] for it in made]
+    return Recording(recording.command, 0, steps=steps, names=names)
 
 
 def add_command(commands: argparse._SubParsersAction) -> None:

@@ -8,6 +8,7 @@ recording knows beyond the steps is in comments, of which `read_recording` reads
     # factor: 1                                      how many bytes of Linux are one byte here
     # steps: 62                                      how many steps follow
     # 4 is tr a-z A-Z                                from here on process 4 is this command
+    name 4 tr                                        its short name, for the program
     # 4 waits in futex since line 98                 a call that the kernel lacks, and never ended
     2 fork 4  # = ok 4  # 57 clone                   Linux's answer, the log's line and call
     # left out: 12 of read of a file, first at line 7
@@ -18,6 +19,7 @@ A step without `# =` has no answer to compare: Linux did it, so it must only be 
 from __future__ import annotations
 
 import re
+from bisect import bisect_left
 from collections import defaultdict
 from dataclasses import dataclass, field
 from typing import Dict, Iterator, List, Optional
@@ -33,12 +35,14 @@ READ, WRITE = "read", "write"  # the sides of a pipe, and the calls on them
 WAITS, ENDED, TRY_AGAIN = "no N9", "ended", "ok -11"  # answers, as a report spells them
 
 HEADER = "txos 3 schedule 2"
-_LINE_LIMIT = 512
+_LINE_LIMIT = 512  # bytes of a line that the program takes
+_NAME_LIMIT = 16  # bytes of a name that the program takes
 _STEP = re.compile(
     r"(?:kernel (?P<starter>\d+)|(?P<process>\d+) (?P<call>[^#\"]*?(?:\"(?:[^\"\\]|\\.)*\")?))"
     r"(?:\s+# = (?P<expected>[^#]+?))?(?:\s+# (?P<line>\d+) (?P<host>[^#]+?))?\s*"
 )
 _NAMED = re.compile(r"# (\d+) is (.+)")
+_NAMING = re.compile(r"name \d+ [A-Za-z0-9._+-]{1,16}\s*(?:#.*)?")  # the comment says more
 _LEFT_OUT = re.compile(r"# left out: (\d+) of (.+), first at line (\d+)")
 _WAITING = re.compile(r"# (\d+) waits in (\w+) since line (\d+)")
 _FIELD = re.compile(r"# (?:(recorded): (.+)|(log|factor|steps): (\d+)(?: .*)?)")
@@ -166,7 +170,7 @@ class Recording:
 
     def text(self) -> str:
         """The recording as a schedule."""
-        return "".join(f"{it[:_LINE_LIMIT]}\n" for it in self._lines())
+        return "".join(f"{_cut(it)}\n" for it in self._lines())
 
     def _lines(self) -> Iterator[str]:
         yield HEADER
@@ -175,8 +179,10 @@ class Recording:
         yield f"# factor: {self.factor}"
         yield f"# steps: {len(self.steps)}"
         notes: Dict[int, List[str]] = defaultdict(list)
-        for named in self.names:
+        for named, name in zip(self.names, self._given_names()):
             notes[named.index].append(f"# {named.process} is {named.command}")
+            if name:
+                notes[named.index].append(f"name {named.process} {name}")
         for it in self.waiting:
             notes[it.index].append(f"# {it.process} waits in {it.call} since line {it.line}")
         for index, step in enumerate(self.steps):
@@ -185,6 +191,19 @@ class Recording:
         yield from notes[len(self.steps)]
         for out in self.left_out:
             yield f"# left out: {out.count} of {out.kind}, first at line {out.line}"
+
+    def _given_names(self) -> List[str]:
+        """For each of `names` the name that its process ends up with, or "" where it has one.
+
+        A number that is forked again is another process.
+        """
+        forks: Dict[int, List[int]] = defaultdict(list)
+        for index, step in enumerate(self.steps):
+            if step.words[0] == "fork" and step.expected in (None, f"ok {step.words[1]}"):
+                forks[int(step.words[1])].append(index)
+        lives = [(it.process, bisect_left(forks[it.process], it.index)) for it in self.names]
+        names = {life: _given_name(it.command) for life, it in zip(lives, self.names)}
+        return [names.pop(it, "") for it in lives]
 
 
 def _words_of(command: str) -> list[str]:
@@ -198,6 +217,25 @@ def short_name(command: str) -> str:
     found = re.match(r"'([^']*)'|\"([^\"]*)\"|(\S+)", command)
     word = next((it for it in found.groups() if it), "") if found else ""
     return word.rpartition("/")[2]
+
+
+def _given_name(command: str) -> str:
+    """The short name of a command, as the program takes it."""
+    name = short_name(command).encode("utf-8", "replace")[:_NAME_LIMIT]
+    return re.sub(rb"[^A-Za-z0-9._+-]", b"_", name).decode("ascii")
+
+
+def _cut(line: str) -> str:
+    """A line, cut to the bytes that the program takes."""
+    cut = line[:_LINE_LIMIT]
+    while len(cut.encode("utf-8", "replace")) > _LINE_LIMIT:
+        cut = cut[:-1]
+    return cut
+
+
+def has_step(line: str) -> bool:
+    """Whether a line of a recording, after the first, is to be a step."""
+    return bool(line.strip()) and not line.startswith("#") and not _NAMING.fullmatch(line)
 
 
 def read_recording(text: str) -> Recording:
@@ -227,7 +265,7 @@ def _read_line(made: Recording, fields: Dict[str, str], number: int, line: str) 
     if line.startswith("#"):
         _read_comment(made, fields, line)
         return
-    if not line.strip():
+    if not has_step(line):
         return
     found = _STEP.fullmatch(line)
     if not found:

@@ -6,15 +6,16 @@ import contextlib
 import itertools
 import sys
 from types import TracebackType
-from typing import BinaryIO, Callable, List, Optional, Sequence, Type, Union
+from typing import BinaryIO, Callable, List, Optional, Sequence, Type, TypeVar, Union
 
 from .faults import Fault
 from .kernel import BadLine, Kernel, Refused, Reply, State, Trial
 from .progress import Progress
-from .recording import ENDED, HEADER, ROOT, BadRecording, Recording, Step, read_recording
+from .recording import ENDED, HEADER, ROOT, BadRecording, Recording, Step, has_step, read_recording
 
 _REFUSED = "no "
 _STANDARD_INPUT = "-"
+_Made = TypeVar("_Made")
 
 
 class BadStep(Fault):
@@ -77,15 +78,18 @@ class Replay:
         may_end = self.step(number).words[0] in ("exit", "deliver")
         return kind == ENDED or (kind == "committed" and may_end)
 
+    def at(self, count: int) -> Kernel:
+        """The kernel, after so many steps."""
+        self.kernel.goto(self._positions[count])
+        return self.kernel
+
     def state(self, count: int) -> State:
         """The state after so many steps."""
-        self.kernel.goto(self._positions[count])
-        return self.kernel.state()
+        return self.at(count).state()
 
     def try_step(self, count: int, step: Step) -> Trial:
         """What a step would come to after so many steps."""
-        self.kernel.goto(self._positions[count])
-        return self.kernel.try_step(step.text)
+        return self.at(count).try_step(step.text)
 
     def _make(self, steps: Sequence[Step], advance: Callable[[], None]) -> None:
         try:
@@ -97,19 +101,20 @@ class Replay:
             raise BadStep(len(self.answers), error) from error
 
 
-def read_file(name: str) -> Recording:
-    """The recording that a file has, or standard input where the name is `-`.
-
-    Raises `Fault` where it is no recording, and OSError where it can't be read.
-    """
-    return _recording_of(_read(name), name)
-
-
 def replay_file(name: str) -> Replay:
-    """The replay of the recording that `read_file` reads; raises as that does."""
+    """The replay of the recording that a file has; raises as `make_of_file` does."""
+    return make_of_file(name, Replay)
+
+
+def make_of_file(name: str, make: Callable[[Recording], _Made]) -> _Made:
+    """What is made of the recording that a file has, or standard input where the name is `-`.
+
+    Raises `Fault` where it is no recording, also where `make` raises `BadStep`, and OSError where
+    it can't be read.
+    """
     text = _read(name)
     try:
-        return Replay(_recording_of(text, name))
+        return make(_recording_of(text, name))
     except BadStep as error:
         line = _line_of(error.index, text)
         raise Fault(f"{_shown(name)}: line {line}: {error.told}") from error
@@ -146,7 +151,7 @@ def _shown(name: str) -> str:
 def _line_of(index: int, text: str) -> int:
     """The number of the line, from 1, that has the step with an index."""
     lines = enumerate(text.split("\n")[1:], 2)
-    steps = (number for number, line in lines if line.strip() and not line.startswith("#"))
+    steps = (number for number, line in lines if has_step(line))
     return next(itertools.islice(steps, index, None))
 
 

@@ -7,7 +7,7 @@ from dataclasses import dataclass
 from typing import Dict, FrozenSet, Iterator, List, Optional, Sequence, Tuple
 
 from .host.tree import KILL
-from .kernel import State
+from .kernel import Kernel, PipeHolders, State
 from .losses import kill_of
 from .progress import Progress
 from .recording import READ, WAITS, WRITE, Step, Waiting
@@ -19,6 +19,21 @@ _OF_SIGNALS = ("deliver", "sigreturn")  # what a process makes while it is in a 
 _MORE_THAN_NONE = re.compile("ok [1-9]")
 # The words of the host by which a process closes its descriptors as it ends.
 _DEATH = re.compile("exit|exit_group|signal|SIG.*")
+
+
+@dataclass(frozen=True)
+class Moment:
+    """The state at the position of a kernel, and who has each of its pipes open there."""
+
+    state: State
+    pipes: Dict[int, PipeHolders]
+
+    @classmethod
+    def of(cls, kernel: Kernel) -> Moment:
+        """What is so at the position of a kernel."""
+        state = kernel.state()
+        held = ((it, kernel.holds_pipe(it)) for it in state.pipes)
+        return cls(state, {number: holders for number, holders in held if holders})
 
 
 @dataclass(frozen=True)
@@ -54,23 +69,21 @@ class Reason:
     holders: List[Holder]
 
 
-def holders_of(state: State, pipe: int, side: str) -> List[Holder]:
+def holders_of(moment: Moment, pipe: int, side: str) -> List[Holder]:
     """Who holds a side of a pipe."""
-    sides = {number for number, it in state.descs.items() if (it.pipe, it.side) == (pipe, side)}
-    held = {
-        process.pid: tuple(fd for fd, desc in process.fds.items() if desc in sides)
-        for process in state.procs.values()
-    }
-    return [Holder(process, fds) for process, fds in held.items() if fds]
+    held = moment.pipes[pipe]
+    holders = held.readers if side == READ else held.writers
+    return [Holder(process, fds) for process, fds in holders.items()]
 
 
-def reason_of(state: State, step: Step) -> Reason:
-    """What a step waits for in a state in which it is refused as waiting."""
+def reason_of(moment: Moment, step: Step) -> Reason:
+    """What a step waits for at a moment at which it is refused as waiting."""
     call, operand = step.words[0], int(step.words[1])
     if call not in OTHER_SIDE:
         return Reason(call, None, [Holder(operand, ())])
+    state = moment.state
     pipe = state.descs[state.procs[step.process].fds[operand]].pipe
-    return Reason(call, pipe, holders_of(state, pipe, OTHER_SIDE[call]))
+    return Reason(call, pipe, holders_of(moment, pipe, OTHER_SIDE[call]))
 
 
 # Which calls wait.
@@ -244,25 +257,25 @@ def death_of(replay: Replay, number: int) -> Optional[int]:
 # Who could end them.
 
 
-def find_chain(state: State, waits: Sequence[Wait], wait: Wait) -> List[Wait]:
+def find_chain(moment: Moment, waits: Sequence[Wait], wait: Wait) -> List[Wait]:
     """The waits of those who could end a wait, and of those who could end these, and so on.
 
-    The waits are all those in a state.
+    The waits are all those at a moment.
     """
     chain = [wait]
     for link in chain:
-        able = _able_to_end(state, link)
+        able = _able_to_end(moment, link)
         others = able - {wait.process}
         chain += [it for it in waits if it.process in others and it not in chain]
     return chain[1:]
 
 
-def find_circle(state: State, waits: Sequence[Wait], wait: Wait) -> List[int]:
+def find_circle(moment: Moment, waits: Sequence[Wait], wait: Wait) -> List[int]:
     """The shortest circle that a wait is in, or none: each of its processes waits for the next."""
     seen = {wait}
     paths: List[Tuple[Wait, ...]] = [(wait,)]
     for path in paths:
-        able = _able_to_end(state, path[-1])
+        able = _able_to_end(moment, path[-1])
         if wait.process in able:
             return [*(it.process for it in path), wait.process]
         for other in waits:
@@ -272,6 +285,6 @@ def find_circle(state: State, waits: Sequence[Wait], wait: Wait) -> List[int]:
     return []
 
 
-def _able_to_end(state: State, wait: Wait) -> FrozenSet[int]:
+def _able_to_end(moment: Moment, wait: Wait) -> FrozenSet[int]:
     """Who could end a wait."""
-    return frozenset(it.process for it in reason_of(state, wait.step).holders)
+    return frozenset(it.process for it in reason_of(moment, wait.step).holders)

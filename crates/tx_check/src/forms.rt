@@ -122,7 +122,7 @@ const PIECES_MEANT: &str =
     "proc P, page P N, fd P F, ids P, pending P, queue P, desc D, pipe Q, txn S";
 
 /// The commands of a session.
-pub static SESSION: [FormRow; 20] = [
+pub static SESSION: [FormRow; 21] = [
     ("back", "", ""),
     ("forward", "", ""),
     ("goto", "K|end", "a position, 0 is before all steps"),
@@ -137,6 +137,7 @@ pub static SESSION: [FormRow; 20] = [
     ("why", "[STEP]", "a step, as 2 getpid"),
     ("owns", "[S]", "the process that began the transaction"),
     ("holds", "pipe|desc N", "pipe or desc, and its number"),
+    ("name", "P NAME", "a process, and its name"),
     ("next", "PIECE", PIECES_MEANT),
     ("cut", "", ""),
     ("help", "[WORD]", "a word to be explained"),

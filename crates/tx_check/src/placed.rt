@@ -269,7 +269,7 @@ fn is_behind_words(line: &[u8], column: usize) -> bool
 }
 
 /// A line without the byte 13 at its end, where it has one.
-fn before_return(line: &[u8]) -> &[u8]
+pub fn before_return(line: &[u8]) -> &[u8]
     ensures parts { (line.now ≡ result.now) ⊎ (line.now ≡ result.now ++ 13 ∷ []) }
     ensures same { result.now ≡ without_return line.now }
     ensures shorter { length result.now ≤ length line.now }

@@ -11,7 +11,7 @@ use crate::diagnose::alone::call_alone;
 use crate::diagnose::shapes::shape_trouble;
 use crate::diagnose::steps::step_trouble;
 use crate::kinds::front_word;
-use crate::own::own_trouble;
+use crate::own::{own_trouble, own_word};
 use crate::placed::placed;
 use crate::places::Part;
 use crate::sentences::sentence;
@@ -70,23 +70,39 @@ fn session_trouble<'a>(
     }
     let step = asked_step(is_third, line);
     let asked = step.unwrap_or(line);
-    let Some(meant) = meant_line(is_third, asked, room) else {
-        return Trouble::of_line(line.len() - asked.len() + 1, LineTrouble::Empty);
+    let trouble = match meant_line(is_third, asked, room) {
+        Some(meant) => {
+            let is_step = step.is_some();
+            let part = part_of(meant, is_step);
+            let trouble = line_trouble(version, meant, is_step);
+            own_trouble(is_third, part, meant, asked, trouble)
+        }
+        None => no_meaning(asked),
     };
-    let part = if step.is_some() || word_at(meant, 0).is_some_and(begins_step) {
-        Part::Step
-    } else {
-        Part::Command
-    };
-    let trouble = line_trouble(version, meant, step.is_some());
-    let trouble = own_trouble(is_third, part, meant, asked, trouble);
     Trouble {
         column: trouble.column.saturating_add(line.len() - asked.len()),
         what: trouble.what,
     }
 }
 
-/// What a line means. Nothing where it is of version 3 and has no word.
+/// What a line is to be, which is a step alone, or else may ask for something too.
+fn part_of(line: &[u8], is_step: bool) -> Part {
+    if is_step || word_at(line, 0).is_some_and(begins_step) {
+        Part::Step
+    } else {
+        Part::Command
+    }
+}
+
+/// What is wrong with a line of version 3 that means none: it has no word, or gives a name to a process.
+fn no_meaning(line: &[u8]) -> Trouble<'_> {
+    match own_word(line, 0) {
+        Some(first) => Trouble::of_word(first, WordTrouble::NoProcess),
+        None => Trouble::of_line(1, LineTrouble::Empty),
+    }
+}
+
+/// What a line means. Nothing where it is of version 3 and means none.
 fn meant_line<'a>(is_third: bool, line: &'a [u8], room: &'a mut Room) -> Option<&'a [u8]> {
     if is_third {
         return plain_line(room, line);
@@ -136,6 +152,9 @@ fn line_trouble<'a>(version: Version, line: &'a [u8], is_step: bool) -> Trouble<
         Some(first) if begins_step(first) => step_trouble(version, line),
         Some(first) if is_step => Some(no_step(first, version, line)),
         Some(first) if first.bytes == b"txos".as_slice() => Some(head_trouble(line)),
+        Some(first) if first.bytes == b"name".as_slice() => {
+            Some(Trouble::of_word(first, WordTrouble::NoNames))
+        }
         _ => ask_trouble(version, line),
     });
     match trouble {

@@ -1,9 +1,11 @@
 //! What is wrong with a line of version 2, as it is told of the line of version 3 that means it.
+mod names;
 mod sets;
 mod strings;
 
 use crate::diagnose::bytes::digits_trouble;
 use crate::places::Part;
+use crate::third::names::naming_trouble;
 use crate::third::sets::set_trouble;
 use crate::third::strings::string_trouble;
 use crate::trouble::{Trouble, What, WordTrouble};
@@ -22,6 +24,7 @@ pub fn third_trouble<'a>(
     if let Some(trouble) = string_trouble(line, own, found.column, &found.what) {
         return trouble;
     }
+    let found = naming_trouble(part, own, found);
     let What::Word(word, wrong) = found.what else {
         return found;
     };

@@ -125,10 +125,12 @@ pub enum WordTrouble<'a> {
     NoSlot,
     LabelColon,
     SessionCommand,
+    NoNames,
     SignalFirst,
     SingleQuotes,
     NoneHere,
     /// These are of version 3 alone.
+    NoProcessName,
     OpenString,
     NoEscape,
     StringSize,
@@ -367,9 +369,11 @@ impl WordTrouble<'_> {
             WordTrouble::NoSlot => "slots are $0 to $7",
             WordTrouble::LabelColon => "a label is a line label NAME",
             WordTrouble::SessionCommand => "this is a command of txos shell, and of no text",
+            WordTrouble::NoNames => "processes get names only in schedules of version 3",
             WordTrouble::SignalFirst => "the process comes first, then the signal",
             WordTrouble::NoneHere => "this line is none that may stand here",
             WordTrouble::SingleQuotes => { "a string is in double quotes, in version 3: \"text\"" }
+            WordTrouble::NoProcessName => "a name has 1 to 16 letters, digits and . _ + -",
             WordTrouble::OpenString => "a string ends with \" in its line",
             WordTrouble::NoEscape =>
                 "the escapes of a string are \\n, \\t, \\0, \\\" and \\\\; hex digits are any bytes",

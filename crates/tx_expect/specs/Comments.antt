@@ -1,17 +1,18 @@
 -- The comment of a line, and what it says that the line's step is to be answered.
-use Rattle.std.specs.Prelude.{ℕ, ◌-◌, Bool, false, true, ◌||◌, List, [], ◌∷◌, drop, length, take, nat_eq, codes, option_and_then, Option, Some, None, if◌then◌else◌}
+use Rattle.std.specs.Prelude.{ℕ, ◌-◌, Bool, false, true, not, ◌||◌, List, [], ◌∷◌, drop, is_some, length, take, nat_eq, codes, option_and_then, Option, Some, None, if◌then◌else◌}
 use Rattle.std.specs.Char.{is_ascii_whitespace}
 use Rattle.std.specs.List.{prefix_len, suffix_len}
 use Rattle.std.specs.Str.{bytes_eq}
 use Rattle.tx_lines.specs.Words.{parts_at}
+use Rattle.tx_plain.specs.Names.{naming_of}
 use Rattle.tx_plain.specs.Words.{is_blank, reading_after}
 use Rattle.tx_plain.specs.declared.reading.Reading.{Reading}
 use Rattle.tx_plain.specs.declared.reading.Reading.TheVariants.{Between, InWord, InString, AfterBackslash, InComment}
 
--- whether there are words
-abbrev pub has_words : List (List ℕ) → Bool
-has_words [] = false
-has_words (word ∷ words) = true
+-- whether words are those of the header or of a step: there are some, and they give no name to a process
+abbrev pub is_told : List (List ℕ) → Bool
+is_told [] = false
+is_told (word ∷ words) = not (is_some (naming_of word words))
 
 -- bytes without the ASCII white space at their start, and without that at their end
 abbrev pub without_start : List ℕ → List ℕ

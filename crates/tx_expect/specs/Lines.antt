@@ -5,7 +5,7 @@ use Rattle.tx_base.specs.declared.steps.Reply.{Reply}
 use Rattle.tx_base.specs.declared.steps.Step.{Step}
 use Rattle.tx_check.specs.Speaking.{shown}
 use Rattle.tx_expect.specs.Agreement.{agrees}
-use Rattle.tx_expect.specs.Comments.{begins_state, expected_in, told_in}
+use Rattle.tx_expect.specs.Comments.{begins_state, expected_in, is_told, told_in}
 use Rattle.tx_expect.specs.declared.judges.Judge.{Judge}
 use Rattle.tx_expect.specs.declared.tallies.Tally.{Tally}
 use Rattle.tx_expect.specs.declared.tallies.Verdict.{Verdict}
@@ -98,12 +98,10 @@ after_step number line (step ∷ steps) [] p = judged_stray p (stray number line
 after_step number line (step ∷ steps) (reply ∷ replies) p =
     judged (record p { steps = steps; replies = replies }) (step_verdict (expected_in line) reply) (step_told number step (expected_in line) reply)
 
--- after a line of these words: the first with one is the header, and each later one is that of a step
-abbrev pub after_words : ℕ → List ℕ → List (List ℕ) → Progress → Progress
-after_words number line [] p = judged_stray p (stray number line)
-after_words number line (word ∷ words) p =
-    if p.headed then after_step number line p.steps p.replies p else judged_stray (record p { headed = true }) (stray number line)
+-- after the line of the header, or of the next step behind it
+abbrev pub after_told : ℕ → List ℕ → Progress → Progress
+after_told number line p = if p.headed then after_step number line p.steps p.replies p else judged_stray (record p { headed = true }) (stray number line)
 
 -- after the line of that number
 abbrev pub after_line : ℕ → List ℕ → Progress → Progress
-after_line number line p = after_words number line (words_in line) p
+after_line number line p = if is_told (words_in line) then after_told number line p else judged_stray p (stray number line)

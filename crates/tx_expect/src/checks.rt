@@ -1,10 +1,11 @@
-//! Tells what is wrong with the expectations of a text.
+//! Tells what is wrong with the expectations and the names of a text.
 ghost use Rattle.std.specs.Prelude.{IfOk, string_bytes};
 ghost use Rattle.tx_check.specs.Command.{Checks};
 ghost use Rattle.tx_expect.specs.Checks.{SaysToo};
 ghost use Rattle.tx_lines.specs.Ends.{IsFresh};
 
-use crate::comments::{begins_state, expected_in, has_word, told_in};
+use crate::comments::{begins_state, expected_in, is_told, told_in};
+use crate::naming::Names;
 use crate::spellings::is_reply;
 use std::alloc::{AllocError, Global};
 use std::fmt::Write;
@@ -18,8 +19,8 @@ const REPLIES: &str = "; a reply is as in a report: ok 0, ok -9, ok EBADF, ended
 committed 4:10:3, aborted 201, out 6869, out -, no N8 2 or no N9\n";
 
 /// Reads a text to its end, and writes what is told of it by the command of its kind, as tx_check has it. Where
-/// that is nothing, and the text is a schedule, what is wrong with its expectations is told. Answers whether
-/// nothing is.
+/// that is nothing, and the text is a schedule, what is wrong with its expectations and its names is told.
+/// Answers whether nothing is.
 ///
 /// `TooLong` at line 0 where the text has more than 1,048,576 bytes, and `Reader` and `NoMemory`: nothing
 /// is written then. `Writer`: a front of what is told is.
@@ -40,21 +41,23 @@ pub fn check_too<S: Source, W: Sink>(
     Ok(bytes.is_empty())
 }
 
-/// What is told of a text, and of its expectations where that is nothing.
+/// What is told of a text, and of its expectations and names where that is nothing.
 fn told_too(alloc: Global, text: &[u8]) -> Result<String, NoMemory>
     ensures { IfOk result (λ told. SaysToo text.now (string_bytes told)) }
 {
     let told = check_text_for(alloc, Reader::Any, text)?;
     if told.is_empty() && kind_of(MeantLines::of(text)) == Kind::Schedule {
-        return Ok(expectation_troubles(alloc, text)?);
+        return Ok(own_troubles(alloc, text)?);
     }
     Ok(told)
 }
 
-/// What is wrong with the expectations of a text that is read as a schedule: a line for each.
-fn expectation_troubles(alloc: Global, text: &[u8]) -> Result<String, AllocError> {
-    let last = last_with_word(text);
+/// What is wrong with the expectations and the names of a text that is read as a schedule: a line for
+/// each.
+fn own_troubles(alloc: Global, text: &[u8]) -> Result<String, AllocError> {
+    let last = last_told(text);
     let mut told = String::new(alloc);
+    let mut names = Names::none(alloc);
     let mut place = Place::Start;
     let mut left = text;
     for number in 1..u64::MAX {
@@ -65,20 +68,29 @@ fn expectation_troubles(alloc: Global, text: &[u8]) -> Result<String, AllocError
         if let Some(trouble) = trouble_at(place, line) {
             put_trouble(&mut told, number, line, trouble)?;
         }
+        match place {
+            Place::Start => {}
+            Place::Header => names.begin(line),
+            Place::Step | Place::Between | Place::State => {
+                if let Some(column) = names.second_name(line)? {
+                    put_second_name(&mut told, number, column)?;
+                }
+            }
+        }
         left = rest;
     }
     Ok(told)
 }
 
-/// The number of the last line that has a word, from 1. 0 where none has one.
-fn last_with_word(text: &[u8]) -> u64 {
+/// The number of the last line that is the header or a step, from 1. 0 where none is.
+fn last_told(text: &[u8]) -> u64 {
     let mut last = 0;
     let mut left = text;
     for number in 1..u64::MAX {
         let Some((line, rest)) = split_line(left) else {
             break;
         };
-        if has_word(line) {
+        if is_told(line) {
             last = number;
         }
         left = rest;
@@ -94,7 +106,7 @@ enum Place {
     Header,
     /// The line of a step.
     Step,
-    /// A line without a word, after the header.
+    /// A line that is no step, after the header.
     Between,
     /// The line `# state`, or one after it.
     State,
@@ -106,9 +118,9 @@ impl Place {
         match self {
             Place::State => Place::State,
             _ if is_after_last && begins_state(line) => Place::State,
-            Place::Start if has_word(line) => Place::Header,
+            Place::Start if is_told(line) => Place::Header,
             Place::Start => Place::Start,
-            _ if has_word(line) => Place::Step,
+            _ if is_told(line) => Place::Step,
             _ => Place::Between,
         }
     }
@@ -155,6 +167,15 @@ fn put_trouble(
         Trouble::NoStep => put(told, "a reply is expected after its step, in its line\n"),
         Trouble::TooSoon => put(told, "# state must come after the last step\n"),
     }
+}
+
+/// Appends a line that tells that the process at a column of the line of that number has a name.
+fn put_second_name(told: &mut String, number: u64, column: usize) -> Result<(), AllocError> {
+    write!(
+        told,
+        "line {number}, column {column}: it has a name; a process gets a second one only when it is \
+         forked anew\n"
+    )
 }
 
 /// The column of an expectation that is wrong: of what is expected, or of its comment.

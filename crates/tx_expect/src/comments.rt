@@ -1,21 +1,21 @@
 //! The comment of a line, and what it says that the line's step is to be answered.
 ghost use Rattle.std.specs.Prelude.{◌≡◌, ◌≤◌, length, option_map};
-ghost use Rattle.tx_expect.specs.Comments.{after_equals, before_mark, begins_state, comment_from, comment_in, expected_in, has_words, says, told_in};
+ghost use Rattle.tx_expect.specs.Comments.{after_equals, before_mark, begins_state, comment_from, comment_in, expected_in, is_told, says, told_in};
 ghost use Rattle.tx_plain.specs.Words as words;
 ghost use Rattle.tx_plain.specs.Words.{words_in};
 ghost use Rattle.tx_plain.specs.declared.reading.Reading.TheVariants.{InString, InWord};
 
 use tx_lines::split_at;
-use tx_plain::split_word;
+use tx_plain::{naming_in, split_word};
 
-/// Whether a line has a word.
-#[inline(always)] // most lines are seen to have one by their first byte
-pub fn has_word(line: &[u8]) -> bool
-    ensures { result ≡ has_words (words_in line.now) }
+/// Whether a line is the header or a step: it has a word, and gives no name to a process.
+#[inline(always)] // most lines are seen to be one by their first byte
+pub fn is_told(line: &[u8]) -> bool
+    ensures { result ≡ is_told (words_in line.now) }
 {
     match line {
-        [first, ..] if !is_blank(*first) && *first != b'#' => true,
-        _ => split_word(line).is_some(),
+        [first, ..] if !is_blank(*first) && *first != b'#' && *first != b'n' => true,
+        _ => split_word(line).is_some() && naming_in(line).is_none(),
     }
 }
 

@@ -7,7 +7,7 @@ ghost use Rattle.tx_expect.specs.Comments.{expected_in};
 ghost use Rattle.tx_plain.specs.OwnLines.{own_lines};
 
 use crate::agreement::agrees;
-use crate::comments::{begins_state, expected_in, has_word};
+use crate::comments::{begins_state, expected_in, is_told};
 use crate::outcomes::Outcome;
 use crate::sentences::{put_counts, put_difference, put_stray, put_too_soon};
 use crate::states::put_state_difference;
@@ -87,7 +87,7 @@ impl<'a> Judge<'a> {
             (progress_of self.new ≡ after_line number line.now (progress_of self.old)) }
         ensures few { OnOk result (total self.new.tally ≤ total self.old.tally + 1) }
     {
-        if has_word(line) {
+        if is_told(line) {
             if self.is_headed
                 && let Some((step, steps)) = self.steps.split_first()
                 && let Some((reply, replies)) = self.replies.split_first()

@@ -8,7 +8,7 @@
 //! one of its spellings (`agreement.rt`). The state is compared line by line up to the first difference
 //! (`states.rt`). What is not as expected is reported (`sentences.rt`), and counted (`tallies.rt`). `check_too`
 //! tells of a text that a check finds right what is wrong with its expectations (`checks.rt`): that no reply is
-//! spelled so (`spellings.rt`), or where they are.
+//! spelled so (`spellings.rt`), or where they are; and which process is given a second name (`naming.rt`).
 
 mod agreement;
 mod checks;
@@ -16,6 +16,7 @@ mod command;
 mod comments;
 mod judges;
 mod laws;
+mod naming;
 mod outcomes;
 mod sentences;
 mod spellings;

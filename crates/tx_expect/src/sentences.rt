@@ -109,7 +109,8 @@ pub fn put_counts(report: &mut String, tally: Tally) -> Result<(), AllocError>
 
 /// Begins the report of a line.
 fn put_place(report: &mut String, number: u64) -> Result<(), AllocError>
-    ensures { OnOk result (string_bytes report.new ≡ string_bytes report.old ++ place_text number) }
+    ensures { OnOk result
+        (string_bytes report.new ≡ string_bytes report.old ++ place_text number) }
 {
     write!(report, "line {number}: ")
 }

@@ -263,6 +263,7 @@ abbrev pub text_rows : List Row
 text_rows =
     row "txos" [] "the first word of a text, and then its version, its kind and a number."
     ∷ row "comment" ("blank" ∷ []) "in a text of version 3, # and what follows it in its line."
+    ∷ row "name" ("names" ∷ []) "gives a process a name, in a schedule of version 3 and in the shell."
     ∷ row "schedule" ("step" ∷ []) "a text that says which process makes which step when."
     ∷ row "program" ("instruction" ∷ []) "a text that says what each process does; all run the same."
     ∷ row "label" [] "names the number of the next instruction of a program."

@@ -3,12 +3,13 @@ pub mod DrawnSteps
 pub mod ExcerptBoxes
 pub mod Followed
 pub mod HeadLines
-pub mod Made
 pub mod Mapped
+pub mod Named
 pub mod Numbered
 pub mod OneMore
 pub mod OpenBoxes
 pub mod PictureFormed
+pub mod Pictured
 pub mod Settled
 pub mod Tallies
 pub mod Told

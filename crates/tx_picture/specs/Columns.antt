@@ -10,6 +10,7 @@ use Rattle.tx_picture.specs.declared.rows.Row.{Row}
 use Rattle.tx_picture.specs.declared.spans.Span.{Span}
 use Rattle.tx_picture.specs.declared.ties.Tie.{Tie}
 use Rattle.tx_picture.specs.declared.ties.Tie.TheVariants.{Holder, Child, Signal}
+use Rattle.tx_picture.specs.declared.waits.Wait.{Wait}
 
 abbrev pub is_at : ℕ → Pid → Bool
 is_at p column = column.0 == p
@@ -38,9 +39,13 @@ noted_row columns row = noted_tie (noted columns (record { 0 = process_of row.st
 abbrev pub noted_rows : List Pid → List Row → List Pid
 noted_rows = fold noted_row
 
+-- those who could end a wait
+abbrev pub noted_waits : List Pid → List Wait → List Pid
+noted_waits = fold (λ columns wait. noted columns wait.awaited)
+
 -- the processes from the left to the right: in the order in which they come, and then those that never run
 abbrev pub columns_of : Drawn → List Pid
-columns_of drawn = noted_rows (noted_writers (noted_spans (noted_spans [] drawn.lanes) drawn.strips) drawn.passages) drawn.rows
+columns_of drawn = noted_waits (noted_rows (noted_writers (noted_spans (noted_spans [] drawn.lanes) drawn.strips) drawn.passages) drawn.rows) drawn.waits
 
 -- the number of a column from the left
 abbrev pub place : Option ℕ → ℕ

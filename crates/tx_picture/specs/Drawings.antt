@@ -16,6 +16,7 @@ use Rattle.tx_picture.specs.Passages.{passages_after, written_after}
 use Rattle.tx_picture.specs.Spans.{followed_upto}
 use Rattle.tx_picture.specs.Ties.{sent_to}
 use Rattle.tx_picture.specs.Transfers.{access_of}
+use Rattle.tx_picture.specs.Waits.{awaited, waits_of}
 use Rattle.tx_picture.specs.declared.passages.Transfer.{Transfer}
 use Rattle.tx_picture.specs.declared.spans.End.{End}
 use Rattle.tx_picture.specs.declared.spans.Stretch.{Stretch}
@@ -73,7 +74,7 @@ is_abort (Aborts s status) = true
 abbrev pub ending : View → Step → ℕ → End
 ending V step row = record { row = row; aborted = is_abort (role_on V step) }
 
--- the step of a row more, which leads from one view to another
+-- the step of a row more, which leads from one view to another: the same where it waits
 abbrev pub drawn_with : View → Step → ℕ → View → Drawn → Drawn
 drawn_with V step row W drawn = record {
   before = drawn.before;
@@ -82,6 +83,7 @@ drawn_with V step row W drawn = record {
   strips = followed_upto (members W) (ending V step row) W.table.width drawn.strips;
   written = written_after (transfer_of V step row) (answer V step) drawn.written;
   passages = passages_after (transfer_of V step row) (answer V step) drawn.written drawn.passages;
+  waits = drawn.waits ++ waits_of row (process_of step) (awaited W step (answer V step));
 }
 
 module _ (S : State) where
@@ -100,6 +102,7 @@ first_drawn V = record {
   strips = [];
   written = [];
   passages = [];
+  waits = [];
 }
 
 -- the whole schedule

@@ -5,6 +5,7 @@ use Rattle.tx_picture.specs.declared.passages.Passage.{Passage}
 use Rattle.tx_picture.specs.declared.passages.Written.{Written}
 use Rattle.tx_picture.specs.declared.rows.Row.{Row}
 use Rattle.tx_picture.specs.declared.spans.Span.{Span}
+use Rattle.tx_picture.specs.declared.waits.Wait.{Wait}
 
 pub record Drawn : Type 0 where
   -- how many steps are before the first row
@@ -19,6 +20,8 @@ pub record Drawn : Type 0 where
   pub written : List Written
   -- what went through pipes, by the reads, the first one first
   pub passages : List Passage
+  -- who could end a wait, by the steps that wait
+  pub waits : List Wait
 
 abbrev pub drawn_as : Drawing → Drawn
 drawn_as drawing = record {
@@ -28,4 +31,5 @@ drawn_as drawing = record {
   strips = drawing.strips.items;
   written = drawing.written.items;
   passages = drawing.passages.items;
+  waits = drawing.waits.items;
 }

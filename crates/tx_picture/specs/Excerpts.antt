@@ -8,6 +8,7 @@ use Rattle.tx_picture.specs.declared.excerpts.Excerpt.{Excerpt}
 use Rattle.tx_picture.specs.declared.passages.Passage.{Passage}
 use Rattle.tx_picture.specs.declared.spans.End.{End}
 use Rattle.tx_picture.specs.declared.spans.Span.{Span}
+use Rattle.tx_picture.specs.declared.waits.Wait.{Wait}
 
 -- whether what ends there reaches past so many rows
 abbrev pub reaches_past : ℕ → Option End → Bool
@@ -17,7 +18,7 @@ reaches_past before (Some end) = nat_lt before end.row
 abbrev pub is_span_after : ℕ → Span → Bool
 is_span_after before span = reaches_past before span.end
 
--- behind so many rows: what was there before is in row 0, at the top edge
+-- after so many rows: what was there before is in row 0, at the top edge
 abbrev pub end_after : ℕ → End → End
 end_after before end = record end { row = end.row - before }
 
@@ -37,7 +38,17 @@ passage_after before passage = record passage { written = passage.written - befo
 abbrev pub passages_after : ℕ → List Passage → List Passage
 passages_after before passages = map (passage_after before) (filter (is_read_after before) passages)
 
--- what there is to draw behind so many rows
+-- who could end a wait there
+abbrev pub is_wait_after : ℕ → Wait → Bool
+is_wait_after before wait = nat_lt before wait.row
+
+abbrev pub wait_after : ℕ → Wait → Wait
+wait_after before wait = record wait { row = wait.row - before }
+
+abbrev pub waits_after : ℕ → List Wait → List Wait
+waits_after before waits = map (wait_after before) (filter (is_wait_after before) waits)
+
+-- what there is to draw after so many rows
 abbrev pub excerpt_of : ℕ → Drawn → Drawn
 excerpt_of before drawn = record {
   before = before;
@@ -46,6 +57,7 @@ excerpt_of before drawn = record {
   strips = spans_after before drawn.strips;
   written = drawn.written;
   passages = passages_after before drawn.passages;
+  waits = waits_after before drawn.waits;
 }
 
 -- the steps to the last one of an excerpt, and how many of them are before its first one

@@ -89,6 +89,6 @@ taken_by transfer count None written passages = passages
 taken_by transfer count (Some (Puts pipe)) written passages = passages
 taken_by transfer count (Some (Takes pipe held)) written passages = taken (reading_of transfer pipe held count) written passages
 
--- after a step that was answered so, behind these writes
+-- after a step that was answered so, which these writes precede
 abbrev pub passages_after : Transfer → Reply → List Written → List Passage → List Passage
 passages_after transfer reply written passages = taken_by transfer (moved reply) transfer.access written passages

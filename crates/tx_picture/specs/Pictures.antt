@@ -1,24 +1,28 @@
 -- The picture of what there is to draw.
-use Rattle.std.specs.Prelude.{ℕ, zero, suc, ◌+◌, ◌*◌, List, [], ◌++◌, codes, fold, length, min, if◌then◌else◌, nat_lt}
+use Rattle.std.specs.Prelude.{ℕ, ◌+◌, ◌*◌, List, [], ◌∷◌, ◌++◌, codes, length, min, if◌then◌else◌, nat_lt}
 use Rattle.std.specs.Fmt.{decimal}
 use Rattle.std.specs.List.{flat_map}
 use Rattle.tx_base.specs.declared.names.Pid.{Pid}
 use Rattle.tx_picture.specs.Arrows.{passages_text}
-use Rattle.tx_picture.specs.Columns.{columns_of}
+use Rattle.tx_picture.specs.Captions.{Captioned}
 use Rattle.tx_picture.specs.Drawn.{Drawn}
-use Rattle.tx_picture.specs.Layout.{heads_above, heads_y, is_wide, words_left, x_of, y_of}
-use Rattle.tx_picture.specs.Steps.{rows_text, words_of}
+use Rattle.tx_picture.specs.Heads.{heads_upto}
+use Rattle.tx_picture.specs.Layout.{heads_above, is_wide, words_left, y_of}
+use Rattle.tx_picture.specs.Sheets.{page_of, Page}
+use Rattle.tx_picture.specs.Steps.{rows_text, shown_words}
 use Rattle.tx_picture.specs.Stretches.{lane_text, starter_text, strip_text}
-use Rattle.tx_picture.specs.Svg.{attribute, element, numbered, worded, words_text}
+use Rattle.tx_picture.specs.Svg.{attribute, element, numbered, worded}
+use Rattle.tx_picture.specs.Waits.{wait_text}
 use Rattle.tx_picture.specs.declared.rows.Row.{Row}
 use Rattle.tx_picture.specs.declared.styles.TheConstants.{LEGEND, STYLE}
 
 abbrev pub longer : ℕ → ℕ → ℕ
 longer a b = if nat_lt a b then b else a
 
--- how many characters the longest text of a step has
-abbrev pub widest : List Row → ℕ
-widest rows = fold (λ most row. longer most (length (words_of row))) 0 rows
+-- how many characters the longest text of a step has, or so many as are known; the first step is in that row
+abbrev pub widest : Page → ℕ → ℕ → List Row → ℕ
+widest page number most [] = most
+widest page number most (row ∷ rows) = widest page (number + 1) (longer most (length (shown_words page number row))) rows
 
 -- how wide the texts are, of which the longest has so many characters
 abbrev pub words_width : ℕ → ℕ
@@ -31,22 +35,6 @@ margin_of columns most = if is_wide columns then words_width most else 0
 -- the legend has room in each picture
 abbrev pub width_of : List Pid → ℕ → ℕ
 width_of columns most = longer 480 (margin_of columns most + words_left columns + words_width most + 24)
-
-abbrev pub height_of : List Row → ℕ
-height_of rows = y_of (length rows) + 88
-
--- the number of a process, above its column or again in it
-abbrev pub head_text : List Pid → ℕ → Pid → List ℕ
-head_text columns y process = words_text (codes "head") (x_of columns process.0) y (decimal process.0)
-
--- a line of numbers, with what they are
-abbrev pub heads_text : List Pid → ℕ → List ℕ
-heads_text columns y = words_text (codes "number") 64 y (codes "process") ++ flat_map (head_text columns y) columns
-
--- so many of these lines, one above each 40 rows
-abbrev pub heads_upto : List Pid → ℕ → List ℕ
-heads_upto columns zero = []
-heads_upto columns (suc count) = heads_upto columns count ++ heads_text columns (heads_y count)
 
 -- a number between two texts
 unfoldable pub between : List ℕ → ℕ → List ℕ → List ℕ
@@ -75,26 +63,27 @@ moved_text x y = attribute (codes "transform") (point_text x y)
 unfoldable pub legend_text : ℕ → List ℕ
 legend_text y = element (codes "g") (moved_text 72 y) meanings_text
 
--- the boxes of transactions behind all else, then the processes, what goes through pipes, and the steps, and the numbers of the boxes
-unfoldable pub drawn_text : List Pid → Drawn → List ℕ
-drawn_text columns drawn =
-    let last = length drawn.rows in
-    flat_map (strip_text columns last) drawn.strips
-    ++ (flat_map (lane_text columns last) drawn.lanes
-    ++ (passages_text columns [] drawn.passages
-    ++ (rows_text columns drawn.strips (record { before = drawn.before; last = last }) 1 drawn.rows ++ flat_map (starter_text columns) drawn.strips)))
+-- the boxes of transactions behind all else, then the processes, what goes through pipes, who could end waits, and the steps, and
+-- the numbers of the boxes
+unfoldable pub drawn_text : Page → Drawn → List ℕ
+drawn_text page drawn =
+    flat_map (strip_text page.columns page.last) page.strips
+    ++ (flat_map (lane_text page.columns page.last) drawn.lanes
+    ++ (passages_text page.columns [] drawn.passages
+    ++ (flat_map (wait_text page.columns) drawn.waits ++ (rows_text page 1 drawn.rows ++ flat_map (starter_text page.columns) page.strips))))
 
 -- that, and the numbers of the processes in front of it, moved to the right
-unfoldable pub body_text : List Pid → ℕ → Drawn → List ℕ
-body_text columns margin drawn = element (codes "g") (moved_text margin 0) (drawn_text columns drawn ++ heads_upto columns (heads_above (length drawn.rows) + 1))
+unfoldable pub body_text : Page → ℕ → Drawn → List ℕ
+body_text page margin drawn = element (codes "g") (moved_text margin 0) (drawn_text page drawn ++ heads_upto page (heads_above page.last + 1))
 
-abbrev pub inner_text : List Pid → ℕ → Drawn → List ℕ
-inner_text columns margin drawn = style_text ++ (body_text columns margin drawn ++ legend_text (y_of (length drawn.rows) + 32))
+abbrev pub inner_text : Page → ℕ → Drawn → List ℕ
+inner_text page margin drawn = style_text ++ (body_text page margin drawn ++ legend_text (y_of page.last + 32))
 
-abbrev pub picture_in : List Pid → Drawn → List ℕ
-picture_in columns drawn =
-    let most = widest drawn.rows in element (codes "svg") (size_text (width_of columns most) (height_of drawn.rows)) (inner_text columns (margin_of columns most) drawn)
+abbrev pub picture_in : Page → Drawn → List ℕ
+picture_in page drawn =
+    let most = widest page 1 0 drawn.rows in
+    element (codes "svg") (size_text (width_of page.columns most) (y_of page.last + 88)) (inner_text page (margin_of page.columns most) drawn)
 
 -- the whole picture
-abbrev pub picture_of : Drawn → List ℕ
-picture_of drawn = picture_in (columns_of drawn) drawn
+abbrev pub picture_of : Captioned → Drawn → List ℕ
+picture_of captioned drawn = picture_in (page_of captioned drawn) drawn

@@ -1,6 +1,6 @@
 -- The text of a picture in SVG: elements, each of which is closed, and texts, in which each byte with a meaning of its own is
 -- escaped.
-use Rattle.std.specs.Prelude.{ℕ, List, [], ◌∷◌, ◌++◌, codes, if◌then◌else◌, nat_lt, ◌==◌}
+use Rattle.std.specs.Prelude.{ℕ, List, [], ◌∷◌, ◌++◌, codes, if◌then◌else◌, length, nat_lt, ◌==◌}
 use Rattle.std.specs.Fmt.{decimal}
 use Rattle.std.specs.List.{flat_map}
 use Rattle.tx_picture.specs.declared.elements.Numbers.{Numbers}
@@ -52,3 +52,12 @@ shape_text shape class numbers = empty_element (shape_name shape) (worded (codes
 -- a text of a class, at a place
 unfoldable pub words_text : List ℕ → ℕ → ℕ → List ℕ → List ℕ
 words_text class x y words = element (codes "text") (worded (codes "class") class ++ (numbered (codes "x") x ++ numbered (codes "y") y)) (escaped words)
+
+-- the whole of a text that is cut
+abbrev pub title_text : List ℕ → List ℕ → List ℕ
+title_text shown whole = if nat_lt (length shown) (length whole) then element (codes "title") [] (escaped whole) else []
+
+-- a text of a class, at a place, which is shown so; the whole of it is its title where it is cut
+unfoldable pub titled_text : List ℕ → ℕ → ℕ → List ℕ → List ℕ → List ℕ
+titled_text class x y shown whole =
+    element (codes "text") (worded (codes "class") class ++ (numbered (codes "x") x ++ numbered (codes "y") y)) (title_text shown whole ++ escaped shown)

@@ -11,10 +11,14 @@ use Rattle.tx_base.specs.declared.steps.Step.TheVariants.{Call as Calls}
 use Rattle.tx_picture.specs.declared.ties.Tie.{Tie}
 use Rattle.tx_picture.specs.declared.ties.Tie.TheVariants.{Holder, Child, Signal}
 
+-- the process of a number that a program gives
+abbrev pub numbered_by : ℤ → Option Pid
+numbered_by (pos number) = if nat_lt number 65536 then Some (record { 0 = number }) else None
+numbered_by (negsuc number) = None
+
 -- the target of a signal; signal 0 only asks
 abbrev pub target_of : ℤ → ℤ → Option Pid
-target_of (pos target) signo = if int_eq signo (pos 0) then None else (if nat_lt target 65536 then Some (record { 0 = target }) else None)
-target_of (negsuc target) signo = None
+target_of target signo = if int_eq signo (pos 0) then None else numbered_by target
 
 -- the process that a step sends a signal to
 abbrev pub sent_to : Step → Option Pid

@@ -1,7 +1,7 @@
 //! Which column a process has.
 ghost use Rattle.std.specs.Prelude.{◌≡◌, IfOk, OnOk, position};
 ghost use Rattle.std.specs.List.{list_any};
-ghost use Rattle.tx_picture.specs.Columns.{column_of, columns_of, is_at, noted, noted_row, noted_rows, noted_spans, noted_tie, noted_writers};
+ghost use Rattle.tx_picture.specs.Columns.{column_of, columns_of, is_at, noted, noted_row, noted_rows, noted_spans, noted_tie, noted_waits, noted_writers};
 ghost use Rattle.tx_picture.specs.Drawn.{drawn_as};
 ghost use Rattle.tx_model.specs.Events.{process_of};
 
@@ -10,6 +10,7 @@ use crate::passages::Passage;
 use crate::rows::Row;
 use crate::spans::Span;
 use crate::ties::{Tie, tie_of};
+use crate::waits::Wait;
 use std::alloc::{AllocError, Global};
 use tx_base::{Pid, Step};
 
@@ -23,6 +24,7 @@ pub(crate) fn columns_of(alloc: Global, drawing: &Drawing) -> Result<Vec<Pid>, A
     note_spans(&mut columns, drawing.strips.as_slice())?;
     note_writers(&mut columns, drawing.passages.as_slice())?;
     note_rows(&mut columns, drawing.rows.as_slice())?;
+    note_waits(&mut columns, drawing.waits.as_slice())?;
     Ok(columns)
 }
 
@@ -61,7 +63,7 @@ fn note_row(columns: &mut Vec<Pid>, row: &Row) -> Result<(), AllocError>
     ensures { OnOk result (columns.new.items ≡ noted_row columns.old.items row.now) }
 {
     note(columns, maker(&row.step))?;
-    note_tie(columns, tie_of(row))
+    note_tie(columns, tie_of(&row.step, &row.reply))
 }
 
 /// A column for the process that something leads to.
@@ -76,8 +78,18 @@ fn note_tie(columns: &mut Vec<Pid>, tie: Option<Tie>) -> Result<(), AllocError>
     }
 }
 
+/// A column for each process that could end a wait.
+fn note_waits(columns: &mut Vec<Pid>, waits: &[Wait]) -> Result<(), AllocError>
+    ensures { OnOk result (columns.new.items ≡ noted_waits columns.old.items waits.now) }
+{
+    for i in 0..waits.len() {
+        note(columns, waits[i].awaited)?;
+    }
+    Ok(())
+}
+
 /// A column for the process, if it has none.
-fn note(columns: &mut Vec<Pid>, process: Pid) -> Result<(), AllocError>
+pub(crate) fn note(columns: &mut Vec<Pid>, process: Pid) -> Result<(), AllocError>
     ensures { OnOk result (columns.new.items ≡ noted columns.old.items process) }
 {
     if !has_column(columns.as_slice(), process) {

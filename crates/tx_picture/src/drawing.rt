@@ -2,6 +2,7 @@
 use crate::passages::{Passage, Written};
 use crate::rows::Row;
 use crate::spans::Span;
+use crate::waits::Wait;
 
 /// What there is to draw of a schedule.
 #[derive(Drop)]
@@ -19,4 +20,6 @@ pub struct Drawing {
     pub written: Vec<Written>,
     /// What went through pipes, by the reads, the first one first.
     pub passages: Vec<Passage>,
+    /// Who could end a wait, by the steps that wait, in order.
+    pub waits: Vec<Wait>,
 }

@@ -1,8 +1,9 @@
 //! Elements of a picture in SVG.
 ghost use Rattle.std.specs.Prelude.{◌≡◌, ◌++◌, OnOk, string_bytes};
-ghost use Rattle.tx_picture.specs.Svg.{numbered, numbers_text, shape_name, shape_text, words_text, worded};
+ghost use Rattle.tx_picture.specs.Svg.{numbered, numbers_text, shape_name, shape_text, title_text, titled_text, words_text, worded};
 
 use crate::escape::put_escaped;
+use crate::wording::Wording;
 use std::alloc::AllocError;
 use std::fmt::Write;
 use tx_lines::put;
@@ -82,6 +83,41 @@ pub(crate) fn put_words(
     put(text, ">")?;
     put_escaped(text, words)?;
     put(text, "</text>\n")
+}
+
+/// Appends a text of a class, at a place, with the whole of it as its title where it is cut.
+#[tactic(auto, unfolding(crate::specs::Svg::titled_text))]
+pub(crate) fn put_titled(
+    text: &mut String,
+    class: &str,
+    x: u64,
+    y: u64,
+    words: &Wording,
+) -> Result<(), AllocError>
+    ensures { OnOk result (string_bytes text.new ≡ string_bytes text.old
+        ++ titled_text class.now x y words.now.shown.items words.now.whole.items) }
+{
+    put(text, "<text")?;
+    put_word(text, "class", class)?;
+    put_number(text, "x", x)?;
+    put_number(text, "y", y)?;
+    put(text, ">")?;
+    put_title(text, words)?;
+    put_escaped(text, words.shown.as_slice())?;
+    put(text, "</text>\n")
+}
+
+/// Appends the title of a text that is cut.
+fn put_title(text: &mut String, words: &Wording) -> Result<(), AllocError>
+    ensures { OnOk result (string_bytes text.new ≡ string_bytes text.old
+        ++ title_text words.now.shown.items words.now.whole.items) }
+{
+    if words.shown.len() >= words.whole.len() {
+        return Ok(());
+    }
+    put(text, "<title>")?;
+    put_escaped(text, words.whole.as_slice())?;
+    put(text, "</title>\n")
 }
 
 /// Appends an attribute that is a number.

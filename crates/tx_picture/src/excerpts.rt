@@ -2,11 +2,12 @@
 ghost use Rattle.std.specs.Prelude.{◌≡◌, ◌-◌, ◌≤◌, IfOk, OnOk, filter, length, map, min, option_map, take};
 ghost use Rattle.tx_picture.specs.Drawn.{drawn_as};
 ghost use Rattle.tx_picture.specs.Excerpts as spec;
-ghost use Rattle.tx_picture.specs.Excerpts.{end_after, is_read_after, is_span_after, passage_after, reaches_past, span_after};
+ghost use Rattle.tx_picture.specs.Excerpts.{end_after, is_read_after, is_span_after, is_wait_after, passage_after, reaches_past, span_after, wait_after};
 
 use crate::drawing::Drawing;
 use crate::passages::Passage;
 use crate::spans::{End, Span};
+use crate::waits::Wait;
 use std::alloc::{AllocError, Global};
 use tx_base::Step;
 
@@ -53,6 +54,7 @@ pub(crate) fn leave_out(alloc: Global, drawing: &mut Drawing, before: u16) -> Re
     drawing.lanes = spans_after(alloc, drawing.lanes.as_slice(), before)?;
     drawing.strips = spans_after(alloc, drawing.strips.as_slice(), before)?;
     drawing.passages = passages_after(alloc, drawing.passages.as_slice(), before)?;
+    drawing.waits = waits_after(alloc, drawing.waits.as_slice(), before)?;
     drawing.before = before;
     Ok(())
 }
@@ -76,7 +78,7 @@ fn is_span_after(before: u16, span: &Span) -> bool
     span.end.is_none_or(|end| before < end.row)
 }
 
-/// A stretch behind so many rows.
+/// A stretch after so many rows.
 fn span_after(before: u16, span: Span) -> Span
     ensures { result ≡ span_after before span }
 {
@@ -87,7 +89,7 @@ fn span_after(before: u16, span: Span) -> Span
     }
 }
 
-/// An end behind so many rows.
+/// An end after so many rows.
 fn end_after(before: u16, end: End) -> End
     ensures { result ≡ end_after before end }
 {
@@ -97,7 +99,7 @@ fn end_after(before: u16, end: End) -> End
     }
 }
 
-/// What goes through pipes to reads that are behind so many rows.
+/// What goes through pipes to reads that are after so many rows.
 fn passages_after(
     alloc: Global,
     passages: &[Passage],
@@ -113,14 +115,14 @@ fn passages_after(
         .collect(alloc)
 }
 
-/// Whether the bytes are read behind so many rows.
+/// Whether the bytes are read after so many rows.
 fn is_read_after(before: u16, passage: &Passage) -> bool
     ensures { result ≡ is_read_after before passage.now }
 {
     before < passage.read
 }
 
-/// A passage behind so many rows.
+/// A passage after so many rows.
 fn passage_after(before: u16, passage: Passage) -> Passage
     ensures { result ≡ passage_after before passage }
 {
@@ -128,5 +130,34 @@ fn passage_after(before: u16, passage: Passage) -> Passage
         written: passage.written.saturating_sub(before),
         read: passage.read.saturating_sub(before),
         ..passage
+    }
+}
+
+/// Who could end the waits that are after so many rows.
+fn waits_after(alloc: Global, waits: &[Wait], before: u16) -> Result<Vec<Wait>, AllocError>
+    ensures { IfOk result (λ after. after.items
+        ≡ map (wait_after before) (filter (is_wait_after before) waits.now)) }
+{
+    waits
+        .iter()
+        .filter(|wait| is_wait_after(before, wait))
+        .map(|wait| wait_after(before, *wait))
+        .collect(alloc)
+}
+
+/// Whether a wait is after so many rows.
+fn is_wait_after(before: u16, wait: &Wait) -> bool
+    ensures { result ≡ is_wait_after before wait.now }
+{
+    before < wait.row
+}
+
+/// A wait after so many rows.
+fn wait_after(before: u16, wait: Wait) -> Wait
+    ensures { result ≡ wait_after before wait }
+{
+    Wait {
+        row: wait.row.saturating_sub(before),
+        ..wait
     }
 }

@@ -1,4 +1,4 @@
-//! Where things stand in a picture, in pixels.
+//! Where things are in a picture, in pixels.
 ghost use Rattle.std.specs.Prelude.{◌≡◌, ◌*◌, ◌+◌};
 ghost use Rattle.tx_picture.specs.Layout.{guide_left, heads_above, heads_y, is_wide, words_left, x_of, y_of};
 
@@ -19,14 +19,14 @@ pub(crate) fn words_left(columns: &[Pid]) -> u64
     96 + 48 * columns.len().min(1000) as u64
 }
 
-/// Whether there are so many columns that the texts stand to their left too.
+/// Whether there are so many columns that the texts are to their left too.
 pub(crate) fn is_wide(columns: &[Pid]) -> bool
     ensures { result ≡ is_wide columns.now }
 {
     columns.len() > 24
 }
 
-/// Where the line to the texts begins, of a step whose mark stands there.
+/// Where the line to the texts begins, of a step whose mark is there.
 pub(crate) fn guide_left(columns: &[Pid], x: u64) -> u64
     ensures { result ≡ guide_left columns.now x }
 {
@@ -40,14 +40,14 @@ pub(crate) fn y_of(row: u16) -> u64
     52 + 24 * u64::from(row) + 48 * u64::from(heads_above(row))
 }
 
-/// How often the numbers of the processes stand again above a row: after each 40 rows.
+/// How often the numbers of the processes come again above a row: after each 40 rows.
 pub(crate) fn heads_above(row: u16) -> u16
     ensures { result ≡ heads_above row }
 {
     row.saturating_sub(1) / 40
 }
 
-/// Where the numbers of the processes stand above 40 rows, before which there are so many times 40.
+/// Where the numbers of the processes are above 40 rows, before which there are so many times 40.
 pub(crate) fn heads_y(before: u16) -> u64
     ensures { result ≡ heads_y before }
 {

@@ -28,7 +28,7 @@ pub struct Passage {
     /// The row of the write.
     pub written: u16,
     pub reader: Pid,
-    /// The row of the read, which stands below it.
+    /// The row of the read, which is below it.
     pub read: u16,
 }
 
@@ -65,7 +65,7 @@ pub(crate) struct Reading {
     pub count: u64,
 }
 
-/// Follows the writes, of which the newest stands first, over a step that was answered so.
+/// Follows the writes, the newest of which is first, over a step that was answered so.
 ///
 /// The only error is that a growth of memory was refused.
 pub(crate) fn note_written(

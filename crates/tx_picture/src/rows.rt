@@ -10,12 +10,3 @@ pub struct Row {
     /// The starter whose transaction holds what the step sends until its commit.
     pub holder: Option<Pid>,
 }
-
-/// Which rows there are.
-#[derive(Clone, Copy)]
-pub(crate) struct Extent {
-    /// How many steps are before the first row.
-    pub before: u16,
-    /// The last row. Rows count from 1.
-    pub last: u16,
-}

@@ -1,37 +1,37 @@
 //! Draws the steps of a schedule: a mark in the column of the process, what leads from it to another
 //! column, and the text beside it.
-ghost use Rattle.std.specs.Prelude.{◌≡◌, ◌≤◌, ◌+◌, ◌++◌, IfOk, List, OnOk, length, string_bytes};
+ghost use Rattle.std.specs.Prelude.{◌≡◌, ◌≤◌, ◌+◌, ◌++◌, OnOk, length, string_bytes};
 ghost use Rattle.std.specs.Fmt.{decimal};
+ghost use Rattle.tx_picture.specs.Sheets.{page_as};
+ghost use Rattle.tx_picture.specs.Steps.{anew_text, child_text, label_text, left_text, mark_text, row_text, rows_text, tied_text};
 ghost use Rattle.tx_picture.specs.Svg.{words_text};
-ghost use Rattle.tx_picture.specs.Steps.{label_text, left_text, mark_text, row_text, rows_text, tied_text, words_of};
 
 use crate::columns::maker;
-use crate::elements::{Numbers, Shape, put_shape, put_words};
+use crate::elements::{Numbers, Shape, put_shape, put_titled, put_words};
+use crate::heads::put_name;
 use crate::held::{Place, put_signal};
 use crate::layout::{guide_left, is_wide, words_left, x_of, y_of};
-use crate::rows::{Extent, Row};
-use crate::spans::Span;
+use crate::rows::Row;
+use crate::sheets::Sheet;
 use crate::ties::{Tie, tie_of};
+use crate::wording::{Wording, words_of};
 use std::alloc::{AllocError, Global};
 use tx_base::{Pid, Reply};
-use tx_lines::{put, put_count, put_step};
-use tx_text::put_named_reply;
+use tx_lines::put_count;
 
 /// Appends the steps.
 pub(crate) fn put_rows(
     alloc: Global,
     text: &mut String,
-    columns: &[Pid],
-    strips: &[Span],
-    extent: Extent,
+    sheet: Sheet<'_>,
     rows: &[Row],
 ) -> Result<(), AllocError>
     requires { length rows.now ≤ 4096 }
-    ensures { OnOk result (string_bytes text.new ≡ string_bytes text.old
-        ++ rows_text columns.now strips.now extent 1 rows.now) }
+    ensures { OnOk result (string_bytes text.new
+        ≡ string_bytes text.old ++ rows_text (page_as sheet.entry) 1 rows.now) }
 {
     for i in 0..rows.len() {
-        put_row(alloc, text, columns, strips, extent, i as u16 + 1, &rows[i])?;
+        put_row(alloc, text, sheet, i as u16 + 1, &rows[i])?;
     }
     Ok(())
 }
@@ -40,39 +40,33 @@ pub(crate) fn put_rows(
 fn put_row(
     alloc: Global,
     text: &mut String,
-    columns: &[Pid],
-    strips: &[Span],
-    extent: Extent,
+    sheet: Sheet<'_>,
     number: u16,
     row: &Row,
 ) -> Result<(), AllocError>
-    ensures { OnOk result (string_bytes text.new ≡ string_bytes text.old
-        ++ row_text columns.now strips.now extent number row.now) }
+    ensures { OnOk result (string_bytes text.new
+        ≡ string_bytes text.old ++ row_text (page_as sheet.entry) number row.now) }
 {
+    let columns = sheet.columns;
     let x = x_of(columns, maker(&row.step));
     let y = y_of(number);
     let guide = Numbers(guide_left(columns, x), y, words_left(columns), y);
     put_shape(text, Shape::Line, "guide", guide)?;
-    put_tie(text, columns, strips, extent.last, number, row)?;
+    put_tie(text, sheet, number, row)?;
     put_mark(text, x, y, &row.reply)?;
-    put_labels(alloc, text, columns, extent.before, number, row)
+    put_anew(alloc, text, sheet, number, tie_of(&row.step, &row.reply))?;
+    put_labels(alloc, text, sheet, number, row)
 }
 
 /// Appends what leads from a step's mark to another column.
-fn put_tie(
-    text: &mut String,
-    columns: &[Pid],
-    strips: &[Span],
-    last: u16,
-    number: u16,
-    row: &Row,
-) -> Result<(), AllocError>
-    ensures { OnOk result (string_bytes text.new ≡ string_bytes text.old
-        ++ tied_text columns.now strips.now last number row.now) }
+fn put_tie(text: &mut String, sheet: Sheet<'_>, number: u16, row: &Row) -> Result<(), AllocError>
+    ensures { OnOk result (string_bytes text.new
+        ≡ string_bytes text.old ++ tied_text (page_as sheet.entry) number row.now) }
 {
+    let columns = sheet.columns;
     let x = x_of(columns, maker(&row.step));
     let y = y_of(number);
-    match tie_of(row) {
+    match tie_of(&row.step, &row.reply) {
         None => Ok(()),
         Some(Tie::Holder(starter)) => {
             let to = x_of(columns, starter);
@@ -88,9 +82,44 @@ fn put_tie(
                 y,
                 to: x_of(columns, target),
             };
-            put_signal(text, place, strips, last, number, row)
+            put_signal(text, place, sheet.strips, sheet.last, number, row)
         }
     }
+}
+
+/// Appends the name of the child to which a tie leads, where its number was that of another process.
+fn put_anew(
+    alloc: Global,
+    text: &mut String,
+    sheet: Sheet<'_>,
+    number: u16,
+    tie: Option<Tie>,
+) -> Result<(), AllocError>
+    ensures { OnOk result (string_bytes text.new
+        ≡ string_bytes text.old ++ anew_text (page_as sheet.entry) number tie) }
+{
+    match tie {
+        Some(Tie::Child(child)) => put_child(alloc, text, sheet, number, child),
+        None | Some(Tie::Holder(_) | Tie::Signal(_)) => Ok(()),
+    }
+}
+
+/// Appends the name of a child below its fork, where its number was that of another process.
+fn put_child(
+    alloc: Global,
+    text: &mut String,
+    sheet: Sheet<'_>,
+    number: u16,
+    child: Pid,
+) -> Result<(), AllocError>
+    ensures { OnOk result (string_bytes text.new
+        ≡ string_bytes text.old ++ child_text (page_as sheet.entry) number child) }
+{
+    let position = usize::from(sheet.before) + usize::from(number);
+    if !sheet.captions.is_anew(child, position) {
+        return Ok(());
+    }
+    put_name(alloc, text, sheet, position, y_of(number) + 14, child)
 }
 
 /// Appends the mark of a step that was answered so.
@@ -110,31 +139,30 @@ fn put_mark(text: &mut String, x: u64, y: u64, reply: &Reply) -> Result<(), Allo
 fn put_labels(
     alloc: Global,
     text: &mut String,
-    columns: &[Pid],
-    before: u16,
+    sheet: Sheet<'_>,
     number: u16,
     row: &Row,
 ) -> Result<(), AllocError>
-    ensures { OnOk result (string_bytes text.new ≡ string_bytes text.old
-        ++ label_text columns.now before number row.now) }
+    ensures { OnOk result (string_bytes text.new
+        ≡ string_bytes text.old ++ label_text (page_as sheet.entry) number row.now) }
 {
     let y = y_of(number) + 4;
-    let step = u64::from(before) + u64::from(number);
+    let step = u64::from(sheet.before) + u64::from(number);
     put_numeral(alloc, text, "number", 64, y, step)?;
-    let words = words_of(alloc, row)?;
-    put_left(text, is_wide(columns), y, words.as_bytes())?;
-    put_words(text, "step", words_left(columns) + 8, y, words.as_bytes())
+    let words = words_of(alloc, sheet, number, row)?;
+    put_left(text, is_wide(sheet.columns), y, &words)?;
+    put_titled(text, "step", words_left(sheet.columns) + 8, y, &words)
 }
 
-/// Appends the text of a step at the left of the columns, where there are many.
-fn put_left(text: &mut String, wide: bool, y: u64, words: &[u8]) -> Result<(), AllocError>
-    ensures { OnOk result
-        (string_bytes text.new ≡ string_bytes text.old ++ left_text wide y words.now) }
+/// Appends the text of a step to the left of the columns, where there are many.
+fn put_left(text: &mut String, wide: bool, y: u64, words: &Wording) -> Result<(), AllocError>
+    ensures { OnOk result (string_bytes text.new ≡ string_bytes text.old
+        ++ left_text wide y words.now.shown.items words.now.whole.items) }
 {
     if !wide {
         return Ok(());
     }
-    put_words(text, "left", 24, y, words)
+    put_titled(text, "left", 24, y, words)
 }
 
 /// Appends a number as a text.
@@ -152,15 +180,4 @@ pub(crate) fn put_numeral(
     let mut numeral = String::new(alloc);
     put_count(&mut numeral, number)?;
     put_words(text, class, x, y, numeral.as_bytes())
-}
-
-/// The text of a step: what it is, and what it was answered, with the name of an error.
-pub(crate) fn words_of(alloc: Global, row: &Row) -> Result<String, AllocError>
-    ensures { IfOk result (λ words. string_bytes words ≡ words_of row.now) }
-{
-    let mut words = String::new(alloc);
-    put_step(&mut words, &row.step)?;
-    put(&mut words, " : ")?;
-    put_named_reply(&mut words, &row.reply)?;
-    Ok(words)
 }

@@ -2,8 +2,8 @@
 //! hatchings, marks that are full, empty or half full, and dashes and heads of arrows, so that it reads
 //! in grey too.
 
-/// What stands in every picture before all else: the styles of the classes, the fills, the heads of
-/// arrows, and the white page.
+/// What every picture has before all else: the styles of the classes, the fills, the heads of arrows,
+/// and the white page.
 pub(crate) const STYLE: &str = "
 <style>
 text{font:13px monospace;fill:#000}
@@ -11,6 +11,7 @@ text{font:13px monospace;fill:#000}
 .left{text-anchor:end}
 .starter{font-size:10px;font-weight:bold;stroke:#fff;stroke-width:3;paint-order:stroke}
 .head{font-weight:bold;text-anchor:middle;stroke:#fff;stroke-width:4;paint-order:stroke}
+.name{font-size:10px;text-anchor:middle;stroke:#fff;stroke-width:3;paint-order:stroke}
 line{stroke:#000;stroke-width:2}
 .guide{stroke:#999;stroke-width:1;stroke-dasharray:1 4}
 .end{stroke-width:3}
@@ -20,6 +21,8 @@ line{stroke:#000;stroke-width:2}
 .dropped{stroke-width:3}
 .bend{stroke-width:1.5;stroke-dasharray:8 3 2 3}
 .pipe{stroke-width:1.5;stroke-dasharray:8 3 2 3;marker-end:url(#taken)}
+.waiting,.wait{stroke-width:1.5;stroke-dasharray:0 4;stroke-linecap:round}
+.wait{marker-end:url(#awaited)}
 .accepted{fill:#000}
 .refused{fill:#fff;stroke:#000;stroke-width:2}
 .failed{fill:url(#failed);stroke:#000;stroke-width:2}
@@ -41,6 +44,8 @@ line{stroke:#000;stroke-width:2}
 <marker id=\"head\" viewBox=\"0 0 10 10\" refX=\"9\" refY=\"5\" markerWidth=\"7\" markerHeight=\"7\" orient=\"auto\"><path d=\"M0,0 L10,5 L0,10 z\"/>
 </marker>
 <marker id=\"taken\" viewBox=\"0 0 10 10\" refX=\"14\" refY=\"5\" markerWidth=\"8\" markerHeight=\"8\" orient=\"auto\"><path d=\"M1,1 L9,5 L1,9 z\" fill=\"#fff\" stroke=\"#000\"/>
+</marker>
+<marker id=\"awaited\" viewBox=\"0 0 6 6\" refX=\"5\" refY=\"3\" markerWidth=\"6\" markerHeight=\"6\" orient=\"auto\"><path d=\"M1,1 L5,3 L1,5\" fill=\"none\" stroke=\"#000\"/>
 </marker>
 </defs>
 <rect width=\"100%\" height=\"100%\" fill=\"#fff\"/>

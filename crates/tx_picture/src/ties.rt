@@ -1,8 +1,7 @@
 //! What leads from a step's mark to the column of another process.
 ghost use Rattle.std.specs.Prelude.{◌≡◌};
-ghost use Rattle.tx_picture.specs.Ties.{answered_tie, sent_to, target_of, tie_of};
+ghost use Rattle.tx_picture.specs.Ties.{answered_tie, numbered_by, sent_to, target_of, tie_of};
 
-use crate::rows::Row;
 use tx_base::{Call, Pid, Refusal, Reply, Step};
 
 /// What leads from a step's mark to the column of another process.
@@ -16,13 +15,13 @@ pub(crate) enum Tie {
     Signal(Pid),
 }
 
-/// What leads from a step's mark to another column.
-pub(crate) fn tie_of(row: &Row) -> Option<Tie>
-    ensures { result ≡ tie_of row.now.step row.now.reply }
+/// What leads to another column from the mark of a step that was answered so.
+pub(crate) fn tie_of(step: &Step, reply: &Reply) -> Option<Tie>
+    ensures { result ≡ tie_of step.now reply.now }
 {
-    match &row.reply {
+    match reply {
         Reply::No(Refusal::Busy { starter }) => Some(Tie::Holder(*starter)),
-        Reply::Done(answer) => answered_tie(&row.step, *answer),
+        Reply::Done(answer) => answered_tie(step, *answer),
         _ => None,
     }
 }
@@ -59,9 +58,17 @@ fn target_of(target: i64, signo: i64) -> Option<Pid>
     ensures { result ≡ target_of target signo }
 {
     if signo == 0 {
-        return None;
+        None
+    } else {
+        numbered_by(target)
     }
-    match u16::try_from(target) {
+}
+
+/// The process of a number that a program gives.
+pub(crate) fn numbered_by(number: i64) -> Option<Pid>
+    ensures { result ≡ numbered_by number }
+{
+    match u16::try_from(number) {
         Ok(number) => Some(Pid(number)),
         Err(_) => None,
     }

@@ -20,12 +20,13 @@ use crate::rows::Row;
 use crate::spans::{End, Span, Stretch, begin};
 use crate::ties::sent_to;
 use crate::transfers::transfer_of;
+use crate::waits::{awaited, note_waits};
 use std::alloc::{AllocError, Global};
 use tx_base::{Call, Pid, Reply, Step};
 use tx_core::Machine;
 use tx_lines::{Fault, Header};
 use tx_live::Inverse;
-use tx_script::boot;
+use tx_script::{boot, make_step};
 
 /// Makes the steps of a schedule, and notes what there is to draw of them.
 ///
@@ -59,6 +60,7 @@ fn first_drawing(alloc: Global, machine: &Machine) -> Result<Drawing, AllocError
         strips: Vec::new(alloc),
         written: Vec::new(alloc),
         passages: Vec::new(alloc),
+        waits: Vec::new(alloc),
     })
 }
 
@@ -110,7 +112,8 @@ fn draw_step(
     let aborted = is_abort(machine, step);
     let holder = holder_of(machine, step);
     let transfer = transfer_of(machine, step, row);
-    let reply = make_step(alloc, machine, step, inverse)?;
+    let mut reply = Reply::Ended;
+    make_step(alloc, machine, step, &mut reply, inverse)?;
     note_passages(
         &mut drawing.passages,
         drawing.written.as_slice(),
@@ -118,6 +121,8 @@ fn draw_step(
         &reply,
     )?;
     note_written(&mut drawing.written, transfer, &reply)?;
+    let processes = awaited(alloc, machine, step, &reply)?;
+    note_waits(&mut drawing.waits, row, maker(step), processes.as_slice())?;
     let made = Row {
         step: step.copy(),
         reply,
@@ -130,29 +135,6 @@ fn draw_step(
     follow(&mut drawing.lanes, machine, Stretch::Lane, end)?;
     follow(&mut drawing.strips, machine, Stretch::Strip, end)?;
     Ok(())
-}
-
-/// Makes a step, which is never taken back, and answers its reply. Its inverse is put where there is a
-/// place for it.
-fn make_step(
-    alloc: Global,
-    machine: &mut Machine,
-    step: &Step,
-    inverse: &mut Inverse,
-) -> Result<Reply, Fault>
-    ensures answer { IfOk result (λ reply. reply ≡ answer (view_of machine.old) step.now) }
-    ensures after { OnOk result
-        ((start : State) (earlier : List Accepted) → IsAfter start earlier machine.old →
-        IsAfter start (history_with earlier step.now (answer (view_of machine.old) step.now))
-        machine.new) }
-    ensures fault { IfErr result (λ fault. fault ≡ NoMemory) }
-{
-    let mut reply = Reply::Ended;
-    let _accepted = machine.step_into(alloc, step, &mut reply, inverse);
-    if reply.wants_memory() {
-        return Err(Fault::NoMemory);
-    }
-    Ok(reply)
 }
 
 /// Whether a step, if it is accepted, aborts a transaction.

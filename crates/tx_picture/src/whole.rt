@@ -1,52 +1,70 @@
 //! Writes the picture of what there is to draw.
-ghost use Rattle.std.specs.Prelude.{◌≡◌, ◌≤◌, ◌+◌, ◌++◌, IfOk, OnOk, length, string_bytes};
-ghost use Rattle.std.specs.List.{flat_map};
+ghost use Rattle.std.specs.Prelude.{◌≡◌, ◌≤◌, ◌++◌, IfOk, OnOk, length, string_bytes};
+ghost use Rattle.tx_picture.specs.Captions.{captioned_as};
 ghost use Rattle.tx_picture.specs.Drawn.{drawn_as};
-ghost use Rattle.tx_picture.specs.Pictures.{between, body_text, drawn_text, head_text, heads_text, heads_upto, height_of, inner_text, legend_text, longer, margin_of, meanings_text, moved_text};
+ghost use Rattle.tx_picture.specs.Pictures.{between, body_text, drawn_text, inner_text, legend_text, longer, margin_of, meanings_text, moved_text};
 ghost use Rattle.tx_picture.specs.Pictures.{picture_in, picture_of, point_text, seen_text, size_text, style_text, widest, width_of, words_width};
+ghost use Rattle.tx_picture.specs.Sheets.{page_as};
 
 use crate::arrows::put_passages;
+use crate::captions::Captions;
 use crate::columns::columns_of;
 use crate::drawing::Drawing;
-use crate::elements::{put_number, put_word, put_words};
-use crate::layout::{heads_above, heads_y, is_wide, words_left, x_of, y_of};
-use crate::rows::{Extent, Row};
-use crate::steps::{put_numeral, put_rows, words_of};
+use crate::elements::{put_number, put_word};
+use crate::heads::put_lines_of_heads;
+use crate::layout::{heads_above, is_wide, words_left, y_of};
+use crate::rows::Row;
+use crate::sheets::Sheet;
+use crate::steps::put_rows;
 use crate::stretches::{put_lanes, put_starters, put_strips};
 use crate::styles::{LEGEND, STYLE};
+use crate::waits::put_waits;
+use crate::wording::words_of;
 use std::alloc::{AllocError, Global};
 use tx_base::Pid;
 use tx_lines::{put, put_count};
 
-/// The picture of what there is to draw of a schedule. The only error is that a growth of memory was
-/// refused.
-pub(crate) fn picture_of(alloc: Global, drawing: &Drawing) -> Result<String, AllocError>
+/// The picture of what there is to draw of a schedule, with what is written beside it. The only error is
+/// that a growth of memory was refused.
+pub(crate) fn picture_of(
+    alloc: Global,
+    captions: &Captions<'_>,
+    drawing: &Drawing,
+) -> Result<String, AllocError>
     requires { length drawing.now.rows.items ≤ 4096 }
-    ensures { IfOk result (λ text. string_bytes text ≡ picture_of (drawn_as drawing.now)) }
+    ensures { IfOk result (λ text. string_bytes text
+        ≡ picture_of (captioned_as captions.now) (drawn_as drawing.now)) }
 {
     let columns = columns_of(alloc, drawing)?;
+    let sheet = Sheet {
+        columns: columns.as_slice(),
+        strips: drawing.strips.as_slice(),
+        before: drawing.before,
+        last: drawing.rows.len() as u16,
+        captions,
+    };
     let mut text = String::new(alloc);
-    put_picture(alloc, &mut text, columns.as_slice(), drawing)?;
+    put_picture(alloc, &mut text, sheet, drawing)?;
     Ok(text)
 }
 
-/// Appends the picture, in which the processes have these columns.
+/// Appends the picture, whose rows are drawn by that sheet.
 fn put_picture(
     alloc: Global,
     text: &mut String,
-    columns: &[Pid],
+    sheet: Sheet<'_>,
     drawing: &Drawing,
 ) -> Result<(), AllocError>
     requires { length drawing.now.rows.items ≤ 4096 }
     ensures { OnOk result (string_bytes text.new
-        ≡ string_bytes text.old ++ picture_in columns.now (drawn_as drawing.now)) }
+        ≡ string_bytes text.old ++ picture_in (page_as sheet.entry) (drawn_as drawing.now)) }
 {
-    let rows = drawing.rows.as_slice();
-    let most = widest(alloc, rows)?;
+    let columns = sheet.columns;
+    let most = widest(alloc, sheet, drawing.rows.as_slice())?;
     put(text, "<svg")?;
-    put_size(text, width_of(columns, most), y_of(rows.len() as u16) + 88)?;
+    put_size(text, width_of(columns, most), y_of(sheet.last) + 88)?;
     put(text, ">")?;
-    put_inner(alloc, text, columns, margin_of(columns, most), drawing)?;
+    put_inner(alloc, text, sheet, margin_of(columns, most), drawing)?;
     put(text, "</svg>\n")
 }
 
@@ -89,17 +107,17 @@ fn put_between(text: &mut String, front: &str, number: u64, back: &str) -> Resul
 fn put_inner(
     alloc: Global,
     text: &mut String,
-    columns: &[Pid],
+    sheet: Sheet<'_>,
     margin: u64,
     drawing: &Drawing,
 ) -> Result<(), AllocError>
     requires { length drawing.now.rows.items ≤ 4096 }
     ensures { OnOk result (string_bytes text.new
-        ≡ string_bytes text.old ++ inner_text columns.now margin (drawn_as drawing.now)) }
+        ≡ string_bytes text.old ++ inner_text (page_as sheet.entry) margin (drawn_as drawing.now)) }
 {
     put_style(text)?;
-    put_body(alloc, text, columns, margin, drawing)?;
-    put_legend(text, y_of(drawing.rows.len() as u16) + 32)
+    put_body(alloc, text, sheet, margin, drawing)?;
+    put_legend(text, y_of(sheet.last) + 32)
 }
 
 /// Appends what there is to draw, and the numbers of the processes in front of it, moved to the right.
@@ -107,104 +125,42 @@ fn put_inner(
 fn put_body(
     alloc: Global,
     text: &mut String,
-    columns: &[Pid],
+    sheet: Sheet<'_>,
     margin: u64,
     drawing: &Drawing,
 ) -> Result<(), AllocError>
     requires { length drawing.now.rows.items ≤ 4096 }
     ensures { OnOk result (string_bytes text.new
-        ≡ string_bytes text.old ++ body_text columns.now margin (drawn_as drawing.now)) }
+        ≡ string_bytes text.old ++ body_text (page_as sheet.entry) margin (drawn_as drawing.now)) }
 {
-    let heads = heads_above(drawing.rows.len() as u16) + 1;
     put(text, "<g")?;
     put_moved(text, margin, 0)?;
     put(text, ">")?;
-    put_drawn(alloc, text, columns, drawing)?;
-    put_lines_of_heads(alloc, text, columns, heads)?;
+    put_drawn(alloc, text, sheet, drawing)?;
+    put_lines_of_heads(alloc, text, sheet, heads_above(sheet.last) + 1)?;
     put(text, "</g>\n")
 }
 
 /// Appends what there is to draw: the boxes of transactions behind all else, then the processes, what
-/// goes through pipes, and the steps, and in front of them the numbers of the boxes.
+/// goes through pipes, who could end waits, and the steps, and in front of them the numbers of the boxes.
 #[tactic(auto, unfolding(crate::specs::Pictures::drawn_text))]
 fn put_drawn(
     alloc: Global,
     text: &mut String,
-    columns: &[Pid],
+    sheet: Sheet<'_>,
     drawing: &Drawing,
 ) -> Result<(), AllocError>
     requires { length drawing.now.rows.items ≤ 4096 }
     ensures { OnOk result (string_bytes text.new
-        ≡ string_bytes text.old ++ drawn_text columns.now (drawn_as drawing.now)) }
+        ≡ string_bytes text.old ++ drawn_text (page_as sheet.entry) (drawn_as drawing.now)) }
 {
-    let rows = drawing.rows.as_slice();
-    let strips = drawing.strips.as_slice();
-    let last = rows.len() as u16;
-    let extent = Extent {
-        before: drawing.before,
-        last,
-    };
-    put_strips(text, columns, last, strips)?;
-    put_lanes(text, columns, last, drawing.lanes.as_slice())?;
+    let columns = sheet.columns;
+    put_strips(text, columns, sheet.last, sheet.strips)?;
+    put_lanes(text, columns, sheet.last, drawing.lanes.as_slice())?;
     put_passages(alloc, text, columns, drawing.passages.as_slice())?;
-    put_rows(alloc, text, columns, strips, extent, rows)?;
-    put_starters(alloc, text, columns, strips)
-}
-
-/// Appends so many lines of the numbers of the processes, one above each 40 rows.
-fn put_lines_of_heads(
-    alloc: Global,
-    text: &mut String,
-    columns: &[Pid],
-    count: u16,
-) -> Result<(), AllocError>
-    ensures { OnOk result
-        (string_bytes text.new ≡ string_bytes text.old ++ heads_upto columns.now count) }
-{
-    for before in 0..count {
-        put_line_of_heads(alloc, text, columns, heads_y(before))?;
-    }
-    Ok(())
-}
-
-/// Appends a line of the numbers of the processes, each in its column, with what they are.
-fn put_line_of_heads(
-    alloc: Global,
-    text: &mut String,
-    columns: &[Pid],
-    y: u64,
-) -> Result<(), AllocError>
-    ensures { OnOk result
-        (string_bytes text.new ≡ string_bytes text.old ++ heads_text columns.now y) }
-{
-    put_words(text, "number", 64, y, b"process")?;
-    put_heads(alloc, text, columns, y)
-}
-
-/// Appends the numbers of the processes, each in its column.
-fn put_heads(alloc: Global, text: &mut String, columns: &[Pid], y: u64) -> Result<(), AllocError>
-    ensures { OnOk result (string_bytes text.new
-        ≡ string_bytes text.old ++ flat_map (head_text columns.now y) columns.now) }
-{
-    for i in 0..columns.len() {
-        put_head(alloc, text, columns, y, columns[i])?;
-    }
-    Ok(())
-}
-
-/// Appends the number of a process, in its column.
-fn put_head(
-    alloc: Global,
-    text: &mut String,
-    columns: &[Pid],
-    y: u64,
-    process: Pid,
-) -> Result<(), AllocError>
-    ensures { OnOk result (string_bytes text.new
-        ≡ string_bytes text.old ++ head_text columns.now y process) }
-{
-    let number = u64::from(process.0);
-    put_numeral(alloc, text, "head", x_of(columns, process), y, number)
+    put_waits(text, columns, drawing.waits.as_slice())?;
+    put_rows(alloc, text, sheet, drawing.rows.as_slice())?;
+    put_starters(alloc, text, columns, sheet.strips)
 }
 
 /// Appends the styles.
@@ -281,13 +237,14 @@ fn words_width(most: u64) -> u64
 }
 
 /// How many characters the longest text of a step has.
-fn widest(alloc: Global, rows: &[Row]) -> Result<u64, AllocError>
-    ensures { IfOk result (λ most. most ≡ widest rows.now) }
+fn widest(alloc: Global, sheet: Sheet<'_>, rows: &[Row]) -> Result<u64, AllocError>
+    requires { length rows.now ≤ 4096 }
+    ensures { IfOk result (λ most. most ≡ widest (page_as sheet.entry) 1 0 rows.now) }
 {
     let mut most = 0;
     for i in 0..rows.len() {
-        let words = words_of(alloc, &rows[i])?;
-        most = longer(most, words.len() as u64);
+        let words = words_of(alloc, sheet, i as u16 + 1, &rows[i])?;
+        most = longer(most, words.width());
     }
     Ok(most)
 }

@@ -10,6 +10,7 @@ pub mod NoEnds
 pub mod SetTexts
 pub mod BareLines
 pub mod Unnamed
+pub mod NamingWords
 pub mod StayingSets
 pub mod StayingBytes
 pub mod StayingWords

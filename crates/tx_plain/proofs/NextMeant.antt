@@ -1,16 +1,23 @@
 -- The meant lines of a text, one after another, and the own lines that mean them.
-use Rattle.std.proofs.Common.{◌≡◌, ◌≢◌, ◌∙◌, ◌⊎◌, ℕ, suc, ◌+◌, Bool, true, false, List, [], ◌∷◌, ◌++◌, codes, length, is_some, nat_lt, slice_index_or, Option, Some, None, if◌then◌else◌, inl, inr, refl, ap, sym, subst, arith}
+use Rattle.std.proofs.Common.{◌≡◌, ◌≢◌, ◌∙◌, ◌⊎◌, ℕ, suc, ◌+◌, Bool, true, false, List, [], ◌∷◌, ◌++◌, codes, get_or, length, is_some, nat_lt, slice_index_or, take, ◌-◌, ◌<◌, Option, Some, None, if◌then◌else◌, inl, inr, refl, ap, sym, subst, arith}
 use Rattle.std.proofs.lemmas.Bool.{both_ways}
 use Rattle.std.proofs.lemmas.Bool.Decides.{eqb_tells}
+use Rattle.std.proofs.lemmas.Slice.Eq.{bytes_eq-Decides}
+use Rattle.std.specs.Str.{bytes_eq}
 use Rattle.tx_lines.specs.Schedule.{after_line, first_line}
-use Rattle.tx_plain.specs.Lines.{plain_line, plain_of_words, plain_others, short_or, spaced, stage_after}
+use Rattle.tx_lines.specs.declared.read.header.TextKind.TheVariants.{Schedule, Program}
+use Rattle.tx_plain.specs.Lines.{line_of_words, plain_line, plain_of_words, plain_others, short_or, spaced, stage_after}
 use Rattle.tx_plain.specs.MeantLines.{MeanFrom}
+use Rattle.tx_plain.specs.Names.{names_process}
 use Rattle.tx_plain.specs.OwnLines.{own_lines}
 use Rattle.tx_plain.specs.Plain.{bare, ended, line_in, numbered, numbers_from, plain_from}
-use Rattle.tx_plain.specs.Words.{next_from, words_in}
+use Rattle.tx_plain.specs.Words.{next_from, rest_from, words_in}
+use Rattle.tx_plain.specs.declared.reading.Reading.TheVariants.{Between}
 use Rattle.tx_plain.specs.declared.stage.Stage.{Stage}
+use Rattle.tx_plain.specs.declared.stage.Stage.TheVariants.{Heading, Within}
 use Rattle.tx_plain.proofs.NoEnds.{first_none, line_none, HasNoEnd}
-use Rattle.tx_plain.proofs.WordParts.{first_found}
+use Rattle.tx_plain.proofs.Tests.{two_ways}
+use Rattle.tx_plain.proofs.WordParts.{first_found, first_words}
 
 -- a line before others is the first
 first_ended : (line rest : List ℕ) → HasNoEnd line → first_line (line ++ 10 ∷ rest) ≡ line
@@ -45,16 +52,46 @@ ended_then (Some line) rest some none = record {
   after = ap after_line (end_then line rest) ∙ after_ended line rest none;
 }
 
--- a line with a word means one
-either_some : (over : Bool) (line : List ℕ) (plain : Option (List ℕ)) → is_some plain ≡ true → is_some (if over then Some line else plain) ≡ true
-either_some true line plain some = refl
-either_some false line plain some = some
+-- a short line means one where its words do
+either_some : (over : Bool) (line plain : List ℕ) → is_some (if over then Some line else Some plain) ≡ true
+either_some true line plain = refl
+either_some false line plain = refl
 
-pub means_some : (stage : Stage) (line word : List ℕ) (words : List (List ℕ)) → words_in line ≡ word ∷ words → is_some (plain_line stage line) ≡ true
-means_some stage line word words are =
-    let plain = word ++ spaced (plain_others stage word words) in
-    either_some (nat_lt 512 (length line)) line (short_or line (plain_of_words stage (words_in line)))
-    (ap (λ (ws : List (List ℕ)). is_some (short_or line (plain_of_words stage ws))) are ∙ either_some (nat_lt 512 (length plain)) line (Some plain) refl)
+short_some : (line : List ℕ) (plain : Option (List ℕ)) → is_some (short_or line plain) ≡ is_some plain
+short_some line None = refl
+short_some line (Some plain) = either_some (nat_lt 512 (length plain)) line plain
+
+pub means_some : (stage : Stage) (line : List ℕ) → nat_lt 512 (length line) ≡ false → is_some (plain_line stage line) ≡ is_some (plain_of_words stage (words_in line))
+means_some stage line short = rw short (short_some line (plain_of_words stage (words_in line)))
+
+-- so does one whose next word begins with another byte than `name` does
+not_named : (named : Bool) (plain : List ℕ) → named ≡ false → is_some (if named then None else Some plain) ≡ true
+not_named true plain other = absurd (both_ways true other refl)
+not_named false plain other = refl
+
+names_first : (stage : Stage) (first : List ℕ) (others : List (List ℕ)) → names_process stage first others ≡ true → first ≡ codes "name"
+names_first Heading first others names = absurd (both_ways false refl names)
+names_first (Within Program) first others names = absurd (both_ways false refl names)
+names_first (Within Schedule) first others names =
+    elim (two_ways (bytes_eq first (codes "name"))) [
+      | inl h ↦ (bytes_eq-Decides first (codes "name")).0 h
+      | inr h ↦ let none : false ≡ true = rw h at names in absurd (both_ways false refl none)
+    ]
+
+pub other_means : (stage : Stage) (line : List ℕ) (byte : ℕ) (bytes : List ℕ) → next_from line ≡ byte ∷ bytes → byte ≢ 110 → is_some (plain_of_words stage (words_in line)) ≡ true
+other_means stage line byte bytes next other =
+    let left : List ℕ = next_from line in
+    let some : 0 < length left = omega (arith, ap length next) in
+    let word : List ℕ = take (length left - length (rest_from Between left)) left in
+    let others = words_in (rest_from Between left) in
+    let are : words_in line ≡ word ∷ others = first_words line left (rest_from Between left) refl refl some in
+    ap (λ (ws : List (List ℕ)). is_some (plain_of_words stage ws)) are
+    ∙ elim (two_ways (names_process stage word others)) [
+      | inl names ↦ let found = first_found line word others are in
+          let begins : byte ∷ bytes ≡ codes "name" ++ found.0 = sym next ∙ found.1 ∙ ap (λ (w : List ℕ). w ++ found.0) (names_first stage word others names) in
+          absurd (other (ap (λ (t : List ℕ). get_or t 0 0) begins))
+      | inr unnamed ↦ not_named (names_process stage word others) (line_of_words stage word others) unnamed
+    ]
 
 -- the next line that a person wrote means one
 pub third_next : (stage : Stage) (left line : List ℕ) (lines : List (List ℕ)) → own_lines left ≡ line ∷ lines → is_some (plain_line stage line) ≡ true →
@@ -151,14 +188,20 @@ no_words word tail (inl is) same =
 no_words word tail (inr is) same =
     let bad : [] ≡ codes "debug" ++ tail = same ∙ ap (λ (w : List ℕ). w ++ tail) is in absurd (cc)
 
+named_begins : (names : Bool) (word line tail : List ℕ) (plain : Option (List ℕ)) → IsOpening word → bare (short_or line (if names then None else plain)) ≡ word ++ tail →
+    (bare (short_or line plain) ≡ word ++ tail → BeginsSo word line) → BeginsSo word line
+named_begins true word line tail plain opens same begins = absurd (no_words word tail opens same)
+named_begins false word line tail plain opens same begins = begins same
+
 words_begin : (stage : Stage) (word line tail : List ℕ) (words : List (List ℕ)) → IsOpening word → words_in line ≡ words → bare (short_or line (plain_of_words stage words)) ≡ word ++ tail → BeginsSo word line
 words_begin stage word line tail [] opens are same = absurd (no_words word tail opens same)
 words_begin stage word line tail (first ∷ others) opens are same =
     let plain = first ++ spaced (plain_others stage first others) in
-    either_begins (nat_lt 512 (length plain)) word line plain tail opens same (λ spelled.
+    named_begins (names_process stage first others) word line tail (Some plain) opens same (λ short.
+    either_begins (nat_lt 512 (length plain)) word line plain tail opens short (λ spelled.
     let found = first_found line first others are in
     let kept = front_kept word first tail found.0 (plain_others stage first others) (opens_bare word opens) spelled in
-    (kept.0, found.1 ∙ kept.1))
+    (kept.0, found.1 ∙ kept.1)))
 
 long_begins : (over : Bool) (word line tail : List ℕ) (short : Option (List ℕ)) → IsOpening word → bare (if over then Some line else short) ≡ word ++ tail → (bare short ≡ word ++ tail → BeginsSo word line) → BeginsSo word line
 long_begins true word line tail short opens same begins = same_begins word line tail opens same

@@ -11,7 +11,8 @@ use Rattle.tx_lines.specs.Sets.{members}
 use Rattle.tx_lines.specs.declared.read.header.TextKind.TheVariants.{Schedule, Program}
 use Rattle.tx_model.specs.SignalSets.{is_in_set, realtime_signals, standard_signals}
 use Rattle.tx_plain.specs.ByteWords.{digits_of, hex_or, is_hex, lower_or, plain_bytes}
-use Rattle.tx_plain.specs.Lines.{plain_arguments, plain_call, plain_line, plain_of_words, plain_others, plain_version, short_or, spaced}
+use Rattle.tx_plain.specs.Lines.{line_of_words, plain_arguments, plain_call, plain_line, plain_of_words, plain_others, plain_version, short_or, spaced}
+use Rattle.tx_plain.specs.Names.{names_process}
 use Rattle.tx_plain.specs.OwnLines.{ended_lines, own_lines, with_byte, without_return}
 use Rattle.tx_plain.specs.Plain.{bare}
 use Rattle.tx_plain.specs.Roles.{plain_word, role_of}
@@ -225,13 +226,15 @@ spaced_none : (words : List (List ℕ)) → HaveNoEnd words → HasNoEnd (spaced
 spaced_none [] none = tt
 spaced_none (word ∷ words) none = ((λ same. omega (arith, same)), both_have word (spaced words) none.0 (spaced_none words none.1))
 
-of_words_none : (stage : Stage) (words : List (List ℕ)) → HaveNoEnd words → HasNoEnd (bare (plain_of_words stage words))
-of_words_none stage [] none = tt
-of_words_none stage (first ∷ others) none = both_have first (spaced (plain_others stage first others)) none.0 (spaced_none (plain_others stage first others) (others_none stage first others none.1))
-
 bare_either : (test : Bool) (a b : Option (List ℕ)) → HasNoEnd (bare a) → HasNoEnd (bare b) → HasNoEnd (bare (if test then a else b))
 bare_either true a b one other = one
 bare_either false a b one other = other
+
+of_words_none : (stage : Stage) (words : List (List ℕ)) → HaveNoEnd words → HasNoEnd (bare (plain_of_words stage words))
+of_words_none stage [] none = tt
+of_words_none stage (first ∷ others) none =
+    bare_either (names_process stage first others) None (Some (line_of_words stage first others)) tt
+    (both_have first (spaced (plain_others stage first others)) none.0 (spaced_none (plain_others stage first others) (others_none stage first others none.1)))
 
 short_none : (line : List ℕ) (found : Option (List ℕ)) → HasNoEnd line → HasNoEnd (bare found) → HasNoEnd (bare (short_or line found))
 short_none line None none found = tt

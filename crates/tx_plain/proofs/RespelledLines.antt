@@ -6,6 +6,7 @@ use Rattle.std.proofs.lemmas.Fmt.{length-decimal-le}
 use Rattle.std.proofs.lemmas.List.{append-nil, take-append-drop}
 use Rattle.std.specs.Bool.{then_some}
 use Rattle.std.specs.Fmt.{decimal, signed_decimal}
+use Rattle.std.specs.Str.{bytes_eq}
 use Rattle.hex.proofs.HexLemmas.{length-encode_with}
 use Rattle.hex.specs.Hex.{encode_lower, lower_digits}
 use Rattle.tx_base.specs.declared.steps.Call.TheVariants as call
@@ -25,6 +26,7 @@ use Rattle.tx_plain.specs.declared.reading.Reading.TheVariants.{Between, InWord}
 use Rattle.tx_plain.specs.declared.stage.Stage.TheVariants.{Within}
 use Rattle.tx_plain.proofs.BareLines.{words_before}
 use Rattle.tx_plain.proofs.Bytes.{bare, AllBare, AreWithin, IsBare}
+use Rattle.tx_plain.proofs.NamingWords.{decimal_unnamed, other_unnamed, unnamed_means}
 use Rattle.tx_plain.proofs.StayingLines.{words_mean}
 use Rattle.tx_plain.proofs.StayingSteps.{step_stays}
 use Rattle.tx_plain.proofs.Tests.{two_ways}
@@ -95,10 +97,10 @@ told_of true step Is Also Then is also to = to is also
 told_of false step Is Also Then is also to = tt
 
 -- with another last word its front is the front of a line that stays itself
-retold_line : (line front word first last plain : List ℕ) (words : List (List ℕ)) → IsTold line front word → IsBare first → AllBare words → AreWithin 35 128 last →
+retold_line : (line front word first last plain : List ℕ) (words : List (List ℕ)) → IsTold line front word → IsBare first → AllBare words → AreWithin 35 128 last → bytes_eq first (codes "name") ≡ false →
     front ++ codes "10" ≡ first ++ spaced (words ++ last ∷ []) → plain_others (Within Schedule) first (words ++ word ∷ []) ≡ words ++ plain ∷ [] → length plain ≤ 128 →
     plain_line (Within Schedule) line ≡ Some (first ++ spaced (words ++ plain ∷ []))
-retold_line line front word first last plain words told first_bare words_bare within same means few =
+retold_line line front word first last plain words told first_bare words_bare within other same means few =
     let before : told.words ++ 32 ∷ codes "10" ≡ (first ++ spaced words) ++ 32 ∷ last =
     sym (append_assoc told.words (32 ∷ []) (codes "10")) ∙ ap (λ (t : List ℕ). t ++ codes "10") (sym told.space) ∙ same ∙ line_last first words last in
     let parted = last_space told.words (codes "10") (first ++ spaced words) last ((bare (codes "10") refl).within) within before in
@@ -111,7 +113,8 @@ retold_line line front word first last plain words told first_bare words_bare wi
     ap length (line_last first words plain ∙ ap (λ (t : List ℕ). t ++ 32 ∷ plain) (sym parted.front_same)) ∙ length-append told.words (32 ∷ plain) in
     let front_size : length front ≡ length told.words + 1 = ap length told.space ∙ length-append told.words (32 ∷ []) in
     short_means line (first ++ spaced (words ++ plain ∷ []))
-    (ap (plain_of_words (Within Schedule)) found ∙ ap (λ (others : List (List ℕ)). Some (first ++ spaced others)) means)
+    (ap (plain_of_words (Within Schedule)) found ∙ unnamed_means (Within Schedule) first (words ++ word ∷ []) (other_unnamed first (words ++ word ∷ []) other)
+    ∙ ap (λ (others : List (List ℕ)). Some (first ++ spaced others)) means)
     told.short (omega (arith, size, front_size, told.short_front, few))
 
 -- such a line means the step that its last word tells
@@ -123,7 +126,7 @@ retold_means line front word (steps.Call pid (call.Store address old)) step told
     let stays = step_stays (steps.Call pid (call.Store address old)) fits in
     let few : length (encode_lower bytes.items) ≤ 128 = omega (arith, length-encode_with lower_digits bytes.items, is.3.2) in
     retold_line line front word (decimal pid.0) (encode_lower old.items) (encode_lower bytes.items) (codes "store" ∷ signed_decimal address ∷ [])
-    told stays.first_bare (stays.others_bare.0, (stays.others_bare.1.0, tt)) stays.others_bare.1.1.0.within (same ∙ stays.spelled)
+    told stays.first_bare (stays.others_bare.0, (stays.others_bare.1.0, tt)) stays.others_bare.1.1.0.within (decimal_unnamed pid.0 (omega (arith, fits.0))) (same ∙ stays.spelled)
     (ap (λ (w : List ℕ). codes "store" ∷ signed_decimal address ∷ w ∷ []) is.2) few
     ∙ ap Some (sym ((step_stays (steps.Call pid (call.Store address bytes)) (fits.0, (fits.1.0, (is.3, tt)))).spelled) ∙ ap step_text (sym is.1))
 retold_means line front word (steps.Call pid (call.Kill target old)) step told same fits is =
@@ -132,7 +135,7 @@ retold_means line front word (steps.Call pid (call.Kill target old)) step told s
     let stays = step_stays (steps.Call pid (call.Kill target old)) fits in
     let few = length-decimal-le 2 signo (omega arith) (omega arith) (omega arith) in
     retold_line line front word (decimal pid.0) (signed_decimal old) (decimal signo) (codes "kill" ∷ signed_decimal target ∷ [])
-    told stays.first_bare (stays.others_bare.0, (stays.others_bare.1.0, tt)) stays.others_bare.1.1.0.within (same ∙ stays.spelled)
+    told stays.first_bare (stays.others_bare.0, (stays.others_bare.1.0, tt)) stays.others_bare.1.1.0.within (decimal_unnamed pid.0 (omega (arith, fits.0))) (same ∙ stays.spelled)
     (ap (λ (n : Option ℕ). codes "kill" ∷ signed_decimal target ∷ number_or word n ∷ []) is.2.0) (omega (arith, few))
     ∙ ap Some (sym ((step_stays (steps.Call pid (call.Kill target (pos signo))) (fits.0, (fits.1.0, (pos_fits signo (omega arith), tt)))).spelled) ∙ ap step_text (sym is.1))
 retold_means line front word (steps.Deliver pid old) step told same fits is =
@@ -141,7 +144,7 @@ retold_means line front word (steps.Deliver pid old) step told same fits is =
     let stays = step_stays (steps.Deliver pid old) fits in
     let few = length-decimal-le 2 signo.0 (omega arith) (omega arith) (omega arith) in
     retold_line line front word (decimal pid.0) (decimal old.0) (decimal signo.0) (codes "deliver" ∷ [])
-    told stays.first_bare (stays.others_bare.0, tt) stays.others_bare.1.0.within (same ∙ stays.spelled)
+    told stays.first_bare (stays.others_bare.0, tt) stays.others_bare.1.0.within (decimal_unnamed pid.0 (omega (arith, fits.0))) (same ∙ stays.spelled)
     (ap (λ (n : Option ℕ). codes "deliver" ∷ number_or word n ∷ []) is.2.0) (omega (arith, few))
     ∙ ap Some (sym ((step_stays (steps.Deliver pid signo) (fits.0, omega arith)).spelled) ∙ ap step_text (sym is.1))
 retold_means line front word before step told same fits is = absurd is

@@ -12,6 +12,7 @@ use Rattle.tx_lines.specs.declared.read.header.TextKind.{TextKind}
 use Rattle.tx_lines.specs.declared.read.header.TextKind.TheVariants.{Schedule, Program}
 use Rattle.tx_plain.specs.Laws.{second, third_header, Means}
 use Rattle.tx_plain.specs.Lines.{kind_of, plain_line, plain_of_words, plain_others, plain_version, short_or, spaced, stage_after}
+use Rattle.tx_plain.specs.Names.{names_process}
 use Rattle.tx_plain.specs.OwnLines.{own_lines, without_return}
 use Rattle.tx_plain.specs.Plain.{ended, is_header_or, is_third_from, line_among, numbered, numbers_from, plain_from}
 use Rattle.tx_plain.specs.Words.{words_in}
@@ -19,6 +20,7 @@ use Rattle.tx_plain.specs.declared.stage.Stage.{Stage}
 use Rattle.tx_plain.specs.declared.stage.Stage.TheVariants.{Heading, Within}
 use Rattle.tx_plain.proofs.BareLines.{ended_line, line_within, no_return, words_spaced}
 use Rattle.tx_plain.proofs.Bytes.{bare, bare_decimal, AllBare, AreWithin, IsBare}
+use Rattle.tx_plain.proofs.NamingWords.{unnamed_means}
 use Rattle.tx_plain.proofs.Tests.{two_ways}
 
 -- a line is words of the alphabet, and they mean themselves in a text of that kind
@@ -29,6 +31,7 @@ pub record StaysIn (kind : TextKind) (line : List ℕ) : Type 0 where
   pub first_bare : IsBare first
   pub others_bare : AllBare others
   pub stay : plain_others (Within kind) first others ≡ others
+  pub unnamed : names_process (Within kind) first others ≡ false
 
 abbrev pub AllStay : TextKind → List (List ℕ) → Type 0
 AllStay kind [] = Unit {0}
@@ -56,6 +59,7 @@ short_line false line = refl
 pub words_mean : (kind : TextKind) (line : List ℕ) → StaysIn kind line → plain_of_words (Within kind) (words_in line) ≡ Some line
 words_mean kind line stays =
     ap (plain_of_words (Within kind)) (ap words_in stays.spelled ∙ words_spaced stays.first stays.others stays.first_bare stays.others_bare)
+    ∙ unnamed_means (Within kind) stays.first stays.others stays.unnamed
     ∙ ap (λ (others : List (List ℕ)). Some (stays.first ++ spaced others)) stays.stay
     ∙ ap Some (sym stays.spelled)
 

@@ -150,6 +150,7 @@ line_stays (line.Label name) is =
       first_bare = bare (codes "label") refl;
       others_bare = (bare_name name.bytes.items is, tt);
       stay = refl;
+      unnamed = refl;
     }
 line_stays (line.Instruction instruction) is =
     let c = instruction.call in
@@ -162,6 +163,7 @@ line_stays (line.Instruction instruction) is =
       first_bare = bare (name_of c) (bare_named c);
       others_bare = all_bare_spelled instruction.spellings.items (program_arguments c) is.spelled fit (bare_kept (arguments_of c) (bare_words c));
       stay = all_stay_spelled (name_of c) 0 instruction.spellings.items (program_arguments c) is.spelled (apt_spelled c) fit;
+      unnamed = refl;
     }
 
 pub program_stays : ProgramStays

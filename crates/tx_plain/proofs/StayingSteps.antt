@@ -18,6 +18,7 @@ use Rattle.tx_plain.specs.Laws.{ScheduleStays, StepsStay, WalkStays, Means, seco
 use Rattle.tx_lines.specs.Lines.{header_text}
 use Rattle.tx_plain.proofs.BareLines.{first_whole, joined_spaced, no_return}
 use Rattle.tx_plain.proofs.Bytes.{bare, bare_decimal, low_decimal}
+use Rattle.tx_plain.proofs.NamingWords.{decimal_unnamed, other_unnamed}
 use Rattle.tx_plain.proofs.StayingLines.{all_stay, ended_by, line_means, lines_mapped, stays_within, text_means, AllStay, StaysIn}
 use Rattle.tx_plain.proofs.StayingWords.{call_bare, call_stays}
 use Rattle.tx_plain.proofs.Unnamed.{low_signal}
@@ -33,6 +34,7 @@ step_stays (steps.Call pid call) fits =
       first_bare = bare_decimal pid.0 (omega (arith, fits.0));
       others_bare = (are.0, are.1);
       stay = ap (λ (ws : List (List ℕ)). name_of call ∷ ws) (call_stays call fits.1);
+      unnamed = other_unnamed (decimal pid.0) (name_of call ∷ words) (decimal_unnamed pid.0 (omega (arith, fits.0)));
     }
 step_stays (steps.Deliver pid signo) fits =
     record {
@@ -42,6 +44,7 @@ step_stays (steps.Deliver pid signo) fits =
       first_bare = bare_decimal pid.0 (omega (arith, fits.0));
       others_bare = (bare (codes "deliver") refl, (bare_decimal signo.0 (omega (arith, fits.1)), tt));
       stay = ap (λ (word : List ℕ). codes "deliver" ∷ word ∷ []) (low_signal (decimal signo.0) (low_decimal signo.0 (omega (arith, fits.1))));
+      unnamed = other_unnamed (decimal pid.0) (codes "deliver" ∷ decimal signo.0 ∷ []) (decimal_unnamed pid.0 (omega (arith, fits.0)));
     }
 step_stays (steps.KernelAbort starter) fits =
     record {
@@ -51,12 +54,13 @@ step_stays (steps.KernelAbort starter) fits =
       first_bare = bare (codes "kernel") refl;
       others_bare = (bare_decimal starter.0 (omega (arith, fits)), tt);
       stay = refl;
+      unnamed = refl;
     }
 
 command_stays : (command : Command) → FitsCommand Two command → StaysIn Schedule (command_text command)
-command_stays Back fits = record { first = codes "back"; others = []; spelled = refl; first_bare = bare (codes "back") refl; others_bare = tt; stay = refl }
-command_stays Forward fits = record { first = codes "forward"; others = []; spelled = refl; first_bare = bare (codes "forward") refl; others_bare = tt; stay = refl }
-command_stays State fits = record { first = codes "state"; others = []; spelled = refl; first_bare = bare (codes "state") refl; others_bare = tt; stay = refl }
+command_stays Back fits = record { first = codes "back"; others = []; spelled = refl; first_bare = bare (codes "back") refl; others_bare = tt; stay = refl; unnamed = refl }
+command_stays Forward fits = record { first = codes "forward"; others = []; spelled = refl; first_bare = bare (codes "forward") refl; others_bare = tt; stay = refl; unnamed = refl }
+command_stays State fits = record { first = codes "state"; others = []; spelled = refl; first_bare = bare (codes "state") refl; others_bare = tt; stay = refl; unnamed = refl }
 command_stays (Goto position) fits =
     record {
       first = codes "goto";
@@ -65,6 +69,7 @@ command_stays (Goto position) fits =
       first_bare = bare (codes "goto") refl;
       others_bare = (bare_decimal position (omega (arith, fits)), tt);
       stay = refl;
+      unnamed = refl;
     }
 command_stays (Moved number) fits =
     record {
@@ -74,10 +79,11 @@ command_stays (Moved number) fits =
       first_bare = bare (codes "moved") refl;
       others_bare = (bare_decimal number (omega (arith, fits.1)), tt);
       stay = refl;
+      unnamed = refl;
     }
 
 debug_stays : StaysIn Schedule debug_line
-debug_stays = record { first = debug_line; others = []; spelled = refl; first_bare = bare debug_line refl; others_bare = tt; stay = refl }
+debug_stays = record { first = debug_line; others = []; spelled = refl; first_bare = bare debug_line refl; others_bare = tt; stay = refl; unnamed = refl }
 
 steps_stay : (taken : List Step) → All (FitsStepOf Two) taken → AllStay Schedule (map step_text taken)
 steps_stay taken fit = all_stay Schedule step_text (FitsStepOf Two) (λ step is. step_stays step is.fits) taken fit

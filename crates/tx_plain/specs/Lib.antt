@@ -7,6 +7,7 @@ pub mod ByteWords
 pub mod Respelled
 pub mod Roles
 pub mod Rooms
+pub mod Names
 pub mod Lines
 pub mod Meant
 pub mod MeantFacts
@@ -17,5 +18,6 @@ pub mod MeantSchedules
 pub mod MeantTexts
 pub mod MeantWalks
 pub mod Plain
+pub mod Written
 pub mod Laws
 pub mod Command

@@ -3,6 +3,7 @@ use Rattle.std.specs.Prelude.{ℕ, ◌+◌, List, [], ◌∷◌, ◌++◌, lengt
 use Rattle.std.specs.Str.{bytes_eq}
 use Rattle.tx_lines.specs.declared.read.header.TextKind.{TextKind}
 use Rattle.tx_lines.specs.declared.read.header.TextKind.TheVariants.{Schedule, Program}
+use Rattle.tx_plain.specs.Names.{names_process}
 use Rattle.tx_plain.specs.Roles.{plain_word, role_of}
 use Rattle.tx_plain.specs.Words.{words_in}
 use Rattle.tx_plain.specs.declared.stage.Stage.{Stage}
@@ -38,17 +39,17 @@ plain_others (Within Schedule) first others = plain_call others
 abbrev pub line_of_words : Stage → List ℕ → List (List ℕ) → List ℕ
 line_of_words stage first others = first ++ spaced (plain_others stage first others)
 
--- the line of some words; nothing for none
+-- the line of some words; nothing for none, and where they give a name to a process
 abbrev pub plain_of_words : Stage → List (List ℕ) → Option (List ℕ)
 plain_of_words stage [] = None
-plain_of_words stage (first ∷ others) = Some (line_of_words stage first others)
+plain_of_words stage (first ∷ others) = if names_process stage first others then None else Some (line_of_words stage first others)
 
 -- a line of version 2, or the line that means it where that became too long
 abbrev pub short_or : List ℕ → Option (List ℕ) → Option (List ℕ)
 short_or line None = None
 short_or line (Some plain) = if nat_lt 512 (length plain) then Some line else Some plain
 
--- the line that a line means; nothing where it has no word. One that is too long stays as it is: so it is too long for whoever reads the plain text
+-- the line that a line means; nothing where it has no word or names a process. One that is too long stays as it is: so it is too long for whoever reads the plain text
 abbrev pub plain_line : Stage → List ℕ → Option (List ℕ)
 plain_line stage line = if nat_lt 512 (length line) then Some line else short_or line (plain_of_words stage (words_in line))
 

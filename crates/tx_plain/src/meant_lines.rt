@@ -6,7 +6,7 @@ ghost use Rattle.tx_lines.specs.Lines.{step_text, FitsStep};
 ghost use Rattle.tx_lines.specs.Programs.{BeginsLabel};
 ghost use Rattle.tx_lines.specs.Schedule.{first_line, FitsStepOf};
 ghost use Rattle.tx_lines.specs.Walks.{debug_line};
-ghost use Rattle.tx_plain.specs.Lines.{plain_line};
+ghost use Rattle.tx_plain.specs.Lines.{plain_line, plain_of_words};
 ghost use Rattle.tx_plain.specs.Meant.{meant_of};
 ghost use Rattle.tx_plain.specs.MeantLines.{left_of, line_of, IsNextLine, OwnsFrom, OwnsNext};
 ghost use Rattle.tx_plain.specs.Plain as plain;
@@ -14,13 +14,14 @@ ghost use Rattle.tx_plain.specs.Words.{words_in};
 ghost use Rattle.tx_plain.specs.declared.stage.Stage.{Stage};
 
 use crate::lines::split_line;
+use crate::names::names_process;
 use crate::plain::is_third;
 use crate::plain_lines::{line_meaning, stage_after};
 use crate::respelled::read_respelled;
 use crate::room::Room;
 use crate::spellings::is;
 use crate::stage::Stage;
-use crate::words::{from_word, has_word};
+use crate::words::{from_word, split_word};
 use tx_base::Step;
 use tx_lines::{LINE_BYTES, TextKind, Version, read_step_into, take_line};
 
@@ -150,7 +151,7 @@ impl<'a> MeantLines<'a> {
         let mut left = self.left;
         let mut number = self.number;
         while let Some((bytes, rest)) = split_line(left) {
-            if means_one(bytes) {
+            if means_one(stage, bytes) {
                 let line = OwnLine {
                     stage: Some(stage),
                     bytes,
@@ -182,13 +183,28 @@ impl<'a> MeantLines<'a> {
     }
 }
 
-/// Whether a line of version 3 means one, wherever it stands.
-fn means_one(line: &[u8]) -> bool
-    ensures some { IsTrue result → (stage : Stage) → is_some (plain_line stage line.now) ≡ true }
-    ensures short { IsFalse result → length line.now ≤ 512 }
-    ensures none { IsFalse result → words_in line.now ≡ [] }
+/// Whether a line means one where a text of version 3 stands so.
+fn means_one(stage: Stage, line: &[u8]) -> bool
+    ensures { result ≡ is_some (plain_line stage line.now) }
 {
-    line.len() > LINE_BYTES || has_word(line)
+    if line.len() > LINE_BYTES {
+        return true;
+    }
+    let Some((byte, _rest)) = from_word(line).split_first() else {
+        return false;
+    };
+    *byte != b'n' || is_unnamed(stage, line)
+}
+
+/// Whether a line has a word, and gives no name to a process where a text of version 3 stands so.
+#[inline(never)] // few lines ask it
+fn is_unnamed(stage: Stage, line: &[u8]) -> bool
+    ensures { result ≡ is_some (plain_of_words stage (words_in line.now)) }
+{
+    match split_word(line) {
+        Some((first, others)) => !names_process(stage, first, others),
+        None => false,
+    }
 }
 
 impl<'a> OwnLine<'a> {

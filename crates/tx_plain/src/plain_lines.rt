@@ -7,6 +7,7 @@ ghost use Rattle.tx_plain.specs.Words.{words_in};
 ghost use Rattle.tx_plain.specs.declared.stage.Stage.TheVariants.{Heading};
 
 use crate::arguments::put_argument;
+use crate::names::names_process;
 use crate::roles::{Role, role_of};
 use crate::room::{Full, Room, put, put_byte};
 use crate::spellings::is;
@@ -14,9 +15,10 @@ use crate::stage::Stage;
 use crate::words::split_word;
 use tx_lines::{LINE_BYTES, TextKind};
 
-/// The line of version 2 that a line means where a text stands so; nothing where it has no word. What
-/// is wrong stays as it is, a line that is too long, or that would become so, as a whole. A line that is
-/// spelled otherwise is put into the room, in place of what that had.
+/// The line of version 2 that a line means where a text stands so; nothing where it has no word, or
+/// gives a name to a process. What is wrong stays as it is, a line that is too long, or that would
+/// become so, as a whole. A line that is spelled otherwise is put into the room, in place of what that
+/// had.
 pub fn line_meaning<'a>(room: &'a mut Room, stage: Stage, line: &'a [u8]) -> Option<&'a [u8]>
     ensures { option_map (λ meaning. meaning.now) result ≡ plain_line stage line.now }
 {
@@ -24,6 +26,9 @@ pub fn line_meaning<'a>(room: &'a mut Room, stage: Stage, line: &'a [u8]) -> Opt
         return Some(line);
     }
     let (first, others) = split_word(line)?;
+    if names_process(stage, first, others) {
+        return None;
+    }
     room.clear();
     if let Err(_full) = put_line(room, stage, first, others) {
         return Some(line);

@@ -12,7 +12,7 @@ use crate::stage::Stage;
 use tx_lines::TextKind;
 
 /// The line of version 2 that a line of version 3 means behind the header of a schedule; nothing where
-/// it has no word. A byte 13 at its end is no part of it. What is wrong stays as it is, a line of more
+/// it has no word, or gives a name to a process. A byte 13 at its end is no part of it. What is wrong stays as it is, a line of more
 /// than 512 bytes as a whole. A line that is spelled otherwise is put into the room, in place of what
 /// that had.
 pub fn plain_line<'a>(room: &'a mut Room, line: &'a [u8]) -> Option<&'a [u8]>

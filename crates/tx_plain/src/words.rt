@@ -1,5 +1,5 @@
 //! The words of a line that a person wrote.
-ghost use Rattle.std.specs.Prelude.{◌≡◌, ◌∷◌, ◌++◌, ◌+◌, ◌-◌, ◌<◌, ◌≤◌, [], ℕ, List, length, map, All, IfOk, IfSome, IsFalse, IsTrue, MatchOption};
+ghost use Rattle.std.specs.Prelude.{◌≡◌, ◌∷◌, ◌++◌, ◌+◌, ◌-◌, ◌<◌, ◌≤◌, [], ℕ, List, length, map, All, IfOk, IfSome, MatchOption};
 ghost use Rattle.tx_plain.specs.Words.{bytes_at, columns_from, columns_in, next_from, rest_from, words_in};
 ghost use Rattle.tx_plain.specs.declared.reading.Reading.TheVariants.{AfterBackslash, Between, InString, InWord};
 
@@ -56,15 +56,6 @@ pub fn split_word(line: &[u8]) -> Option<(&[u8], &[u8])>
     }
     let rest = after_word(left);
     Some((&left[..left.len() - rest.len()], rest))
-}
-
-/// Whether a line has a word.
-pub fn has_word(line: &[u8]) -> bool
-    ensures none { IsFalse result → words_in line.now ≡ [] }
-    ensures some { IsTrue result → (word : List ℕ) × (words : List (List ℕ))
-        × (words_in line.now ≡ word ∷ words) }
-{
-    !from_word(line).is_empty()
 }
 
 /// What is left of a line from its next word on. Nothing where there is none.

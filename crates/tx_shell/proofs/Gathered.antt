@@ -3,18 +3,8 @@ use Rattle.std.proofs.Common.{◌≡◌, ℕ, zero, suc, ◌+◌, ◌<◌, List,
 use Rattle.std.proofs.lemmas.List.{append-nil}
 use Rattle.json.specs.Token.{Token}
 use Rattle.tx_json.specs.Each.{each_tokens}
-use Rattle.tx_shell.specs.Holders.{each_below}
+use Rattle.tx_waits.specs.Holders.{each_below}
 use Rattle.tx_text.specs.Each.{each_text}
-
-pub below_none : {A : Type 0} → (some : ℕ → List A) (before : List A) → before ≡ before ++ each_below some 0
-unfolding each_below
-below_none some before = sym (append-nil before)
-
-pub below_more : {A : Type 0} → (some : ℕ → List A) (i : ℕ) (before now after : List A) → now ≡ before ++ each_below some i → after ≡ now ++ some i → after ≡ before ++ each_below some (i + 1)
-unfolding each_below
-below_more some i before now after so_far more =
-    let one : each_below some (i + 1) ≡ each_below some i ++ some i = rw add-one refl in
-    more ∙ ap (λ t. t ++ some i) so_far ∙ append_assoc before (each_below some i) (some i) ∙ ap (λ t. before ++ t) (sym one)
 
 -- the texts of items, one item more
 each_suc : {A : Type 0} (text : A → List ℕ) (items : List A) (i : ℕ) (d : A) → i < length items → each_text text (take (suc i) items) ≡ each_text text (take i items) ++ text (get_or items i d)

@@ -7,8 +7,12 @@ pub mod Found
 pub mod Gathered
 pub mod Jsons
 pub mod LeftOver
+pub mod LineEnds
 pub mod Listed
 pub mod Numbered
+pub mod NameAsks
+pub mod NameBytes
+pub mod NamesThere
 pub mod Numbers
 pub mod OwnSteps
 pub mod Owned

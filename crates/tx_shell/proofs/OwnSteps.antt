@@ -1,5 +1,5 @@
 -- A line that spells a step means itself, in each version.
-use Rattle.std.proofs.Common.{◌≡◌, ◌≢◌, ℕ, ◌<◌, ◌^◌, false, not, List, [], ◌∷◌, ◌++◌, codes, get_or, length, nat_eq, nat_lt, option_map, Some, refl, ap, sym, ◌∙◌, arith}
+use Rattle.std.proofs.Common.{◌≡◌, ◌≢◌, ℕ, ◌<◌, ◌^◌, false, not, List, [], ◌∷◌, ◌++◌, codes, get_or, length, nat_eq, nat_lt, option_map, Option, Some, refl, ap, sym, ◌∙◌, arith}
 use Rattle.std.proofs.Math.Bool.{and-false}
 use Rattle.std.proofs.lemmas.Bool.{ne_eqb}
 use Rattle.std.proofs.lemmas.Bool.Decides.{nat_tests}
@@ -15,11 +15,12 @@ use Rattle.tx_lines.specs.Lines.{step_text, FitsStep}
 use Rattle.tx_lines.specs.declared.read.header.TextKind.TheVariants.{Schedule}
 use Rattle.tx_plain.specs.Laws.{StepsStay, StepStays}
 use Rattle.tx_plain.specs.Lines.{plain_line}
+use Rattle.tx_plain.specs.Names.{naming_in}
 use Rattle.tx_plain.specs.OwnLines.{without_return}
 use Rattle.tx_plain.specs.Words.{word_from}
 use Rattle.tx_plain.specs.declared.reading.Reading.TheVariants.{InWord}
 use Rattle.tx_plain.specs.declared.stage.Stage.TheVariants.{Within}
-use Rattle.tx_shell.specs.Meanings.{asks_of_step, first_word, meant_line, spelled_line, third_line, usual_words}
+use Rattle.tx_shell.specs.Meanings.{asks_of_step, first_word, meant_line, or_naming, spelled_line, third_line, usual_words}
 use Rattle.tx_shell.specs.Standings.{quit_line}
 use Rattle.tx_shell.specs.declared.lines.versions.TextVersion.{TextVersion}
 use Rattle.tx_shell.specs.declared.lines.versions.TextVersion.TheVariants.{One, Two, Three}
@@ -74,7 +75,7 @@ module _ (line : List ℕ) (begins : BeginsAsStep line) where
   asks_none = rw (no_asking 116 (codes "ry") (omega arith) (λ e. omega (arith, e))) (no_asking 119 (codes "hy") (omega arith) (λ e. omega (arith, e)))
 
   third_stays : plain_line (Within Schedule) (without_return line) ≡ Some line → third_line line ≡ Some line
-  third_stays means = rw asks_none (rw (and-false (not (nat_lt 512 (length line)))) means)
+  third_stays means = rw asks_none (rw (and-false (not (nat_lt 512 (length line)))) (ap (λ (plain : Option (List ℕ)). or_naming plain (naming_in (without_return line))) means))
 
 -- a step is no line that ends a talk
 pub no_quit : (step : Step) → FitsStep step → step_text step ≢ quit_line

@@ -14,7 +14,7 @@ use Rattle.tx_lines.specs.declared.read.header.Version.TheVariants as versions
 use Rattle.tx_model.specs.Schedules.{history_with}
 use Rattle.tx_model.specs.State.{State}
 use Rattle.tx_script.specs.Debug.{first_steps}
-use Rattle.tx_shell.specs.Answers.{left_by, lets_go, AnswersAskIn, AnswersStep, AnswersWords}
+use Rattle.tx_shell.specs.Answers.{left_by, lets_go, AnswersAskIn, AnswersStep, AnswersWords, Kept}
 use Rattle.tx_shell.specs.Events.{End, Failure, Line, Talks, Text}
 use Rattle.tx_shell.specs.Origins.{version_of, grammar_of, Origin}
 use Rattle.tx_shell.specs.Places.{Place}
@@ -59,13 +59,13 @@ module _ (o : Origin) (p q : Place) (text : List ℕ) (all : AllFit o.version p.
   left true r fit = first_fit o.version r.at r.history fit
   left false r fit = fit
 
-  asked : (form : Form) (refused : Option Step) (ask : Ask) → AnswersAskIn form o p refused ask text q → AllFit o.version q.history
-  asked form refused ask answers =
+  asked : (form : Form) (before after : Kept) (ask : Ask) → AnswersAskIn form o p before ask text q after → AllFit o.version q.history
+  asked form before after ask answers =
       subst (λ (r : Place). AllFit o.version r.history) (sym answers.after) (left (lets_go ask) answers.there (subst (AllFit o.version) (sym answers.kept) all))
 
-  worded : (form : Form) (before after : Option Step) (line words : List ℕ) → AnswersWords form o p before line words text q after → AllFit o.version q.history
+  worded : (form : Form) (before after : Kept) (line words : List ℕ) → AnswersWords form o p before line words text q after → AllFit o.version q.history
   worded form before after line words (inl (step, is, answers, kept)) = stepped form step (record { fits = is.fits; of = is.of }) _ answers
-  worded form before after line words (inr (inl (ask, is, answers, kept))) = asked form before ask answers
+  worded form before after line words (inr (inl (ask, is, answers))) = asked form before after ask answers
   worded form before after line words (inr (inr (neither, kept))) = same_place neither.stays
 
 -- a header of the first two versions fits the version that its lines are read by
@@ -84,8 +84,8 @@ opened s t line text opens = record {
 
 meant : (s t : Standing) (line : List ℕ) (words : Option (List ℕ)) (text : List ℕ) → AnswersMeant s line words text t → IsSpelled s → IsSpelled t
 meant s t line None text (none, same) spelled = subst IsSpelled (sym same) spelled
-meant s t line (Some words) text (other, (q, (refused, answers, goes))) spelled =
-    subst IsSpelled (sym goes) (record { begins = spelled.begins; steps = worded s.origin s.place q text spelled.steps s.form s.refused refused line words answers })
+meant s t line (Some words) text (other, (q, (kept, answers, goes))) spelled =
+    subst IsSpelled (sym goes) (record { begins = spelled.begins; steps = worded s.origin s.place q text spelled.steps s.form s.kept kept line words answers })
 
 answered : (s t : Standing) (line text : List ℕ) → Answers s line text t → IsSpelled s → IsSpelled t
 answered s t line text (inl opens) spelled = opened s t line text opens

@@ -27,9 +27,12 @@ free_digits mark other (byte ∷ bytes) digits =
 free_number : (n : ℕ) → n < 2 ^ 63 → IsFree 32 (decimal n)
 free_number n small = free_digits 32 (λ h. omega arith) (decimal n) (decimal_is_IsNumeral n (omega arith)).0.1
 
--- the first number is the first word, and the second the rest
+-- a number is the first word, and what follows it the rest
+pub number_first : (words : List ℕ) (n : ℕ) (rest : List ℕ) → n < 2 ^ 63 → words ≡ decimal n ++ 32 ∷ rest → first_word words ≡ Some (decimal n, rest)
+number_first words n rest small spelled = ap first_word spelled ∙ parts_at-word 32 (decimal n) rest (free_number n small)
+
 pub two_words : (numbers : List ℕ) (first last : ℕ) → first < 2 ^ 63 → numbers ≡ decimal first ++ 32 ∷ decimal last → first_word numbers ≡ Some (decimal first, decimal last)
-two_words numbers first last small spelled = ap first_word spelled ∙ parts_at-word 32 (decimal first) (decimal last) (free_number first small)
+two_words numbers first last small spelled = number_first numbers first (decimal last) small spelled
 
 parts_front : (byte : ℕ) (found : Option (List ℕ × List ℕ)) (a b : List ℕ) → with_front byte found ≡ Some (a, b) → (rest : List ℕ) × (a ≡ byte ∷ rest) × (found ≡ Some (rest, b))
 parts_front byte None a b e = absurd (cc)
@@ -61,6 +64,10 @@ same_parts left right e =
     let pair : left ≡ right = cc in
     (ap (λ (p : List ℕ × List ℕ). p.0) pair, ap (λ (p : List ℕ × List ℕ). p.1) pair)
 
--- the words are those numbers
+-- the words are that number, and what follows it
+pub same_first : (words a b : List ℕ) (n : ℕ) (rest : List ℕ) → n < 2 ^ 63 → first_word words ≡ Some (a, b) → words ≡ decimal n ++ 32 ∷ rest → (a ≡ decimal n) × (b ≡ rest)
+same_first words a b n rest small parted spelled = same_parts (a, b) (decimal n, rest) (sym parted ∙ number_first words n rest small spelled)
+
+-- they are those numbers
 pub same_words : (numbers a b : List ℕ) (first last : ℕ) → first < 2 ^ 63 → first_word numbers ≡ Some (a, b) → numbers ≡ decimal first ++ 32 ∷ decimal last → (a ≡ decimal first) × (b ≡ decimal last)
-same_words numbers a b first last small parted spelled = same_parts (a, b) (decimal first, decimal last) (sym parted ∙ two_words numbers first last small spelled)
+same_words numbers a b first last small parted spelled = same_first numbers a b first (decimal last) small parted spelled

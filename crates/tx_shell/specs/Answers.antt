@@ -1,6 +1,7 @@
 -- What a session is asked for by lines that are no steps, how that is spelled, and what the lines are answered, which moves the session.
 use Rattle.std.specs.Fmt.{decimal}
-use Rattle.std.specs.Prelude.{◌≢◌, ℕ, ◌<◌, ◌^◌, Bool, List, ◌∷◌, ◌++◌, codes, false, true, ◌≡◌, ◌⊎◌, ◌&&◌, Option, None, Some, IsTrue, if◌then◌else◌, length, nat_eq, option_map, string_bytes}
+use Rattle.std.specs.Prelude.{◌≢◌, ℕ, ◌<◌, ◌≤◌, ◌^◌, Bool, List, ◌∷◌, ◌++◌, codes, false, true, ◌≡◌, ◌⊎◌, Option, None, Some, IsTrue, if◌then◌else◌, length, nat_eq, option_map, string_bytes}
+use Rattle.tx_base.specs.Slots.{with_slot}
 use Rattle.tx_base.specs.declared.steps.Accepted.{Accepted}
 use Rattle.tx_base.specs.declared.steps.Reply.{Reply}
 use Rattle.tx_base.specs.declared.steps.Step.{Step}
@@ -12,17 +13,20 @@ use Rattle.tx_lines.specs.Schedule.{IsNoStep}
 use Rattle.tx_lines.specs.Walks.{command_text, FitsCommand}
 use Rattle.tx_lines.specs.declared.read.command.Command.TheVariants as commands
 use Rattle.tx_lines.specs.declared.read.command.Command.{Command}
-use Rattle.tx_lines.specs.declared.read.header.Version.{Version}
 use Rattle.tx_model.specs.Answer.{answer}
 use Rattle.tx_model.specs.Schedules.{history_with}
-use Rattle.tx_model.specs.State.{State}
+use Rattle.tx_model.specs.State.{State, is_between}
 use Rattle.tx_model.specs.View.{present, view}
+use Rattle.tx_plain.specs.Names.{is_name}
+use Rattle.tx_plain.specs.Written.{NameAt}
 use Rattle.tx_script.specs.Debug.{command_response, first_steps, position_after, responded_in, Responded}
+use Rattle.tx_shell.specs.Attempts.{attempt_of, awaited_child}
 use Rattle.tx_shell.specs.Changes.{shown_at, FindsLast, FindsNext}
 use Rattle.tx_shell.specs.Comparisons.{compared_at, differing_between, IsAmong}
 use Rattle.tx_shell.specs.Differences.{differing_without, views_differing}
 use Rattle.tx_shell.specs.Forms.{SaysAhead, SaysAnswer, SaysReply, TellsIn}
 use Rattle.tx_shell.specs.Held.{desc_held, held_desc, held_pipe, pipe_held, HeldDesc, HeldPipe}
+use Rattle.tx_shell.specs.Names.{forked, maker, names_at, names_by}
 use Rattle.tx_shell.specs.Origins.{start_in, grammar_of, Origin}
 use Rattle.tx_shell.specs.Pieces.{piece_name, FitsPiece}
 use Rattle.tx_shell.specs.Places.{Place}
@@ -32,6 +36,8 @@ use Rattle.tx_shell.specs.declared.answers.answer.Answer.{Answer}
 use Rattle.tx_script.specs.declared.forms.Form.{Form}
 use Rattle.tx_shell.specs.declared.lines.asks.Ask.TheVariants as asks
 use Rattle.tx_shell.specs.declared.lines.asks.Ask.{Ask}
+use Rattle.tx_shell.specs.declared.lines.versions.TextVersion.{TextVersion}
+use Rattle.tx_shell.specs.declared.lines.versions.TextVersion.TheVariants.{Three}
 use Rattle.tx_shell.specs.declared.questions.changes.Change.{Change}
 
 -- the spelling, without the line's end
@@ -53,28 +59,30 @@ ask_text asks.Owns = codes "owns"
 ask_text (asks.OwnsOf starter) = codes "owns " ++ decimal starter
 ask_text (asks.HoldsPipe number) = codes "holds pipe " ++ decimal number.0
 ask_text (asks.HoldsDesc number) = codes "holds desc " ++ decimal number.0
+ask_text (asks.Name process name) = codes "name " ++ (decimal process.0 ++ 32 ∷ name.now)
 ask_text asks.Cut = codes "cut"
 ask_text asks.Help = codes "help"
 ask_text (asks.HelpOn word) = codes "help " ++ word.now
 
 -- it is one of that version, and its numbers ones that a line can hold
-abbrev pub FitsAsk : Version → Ask → Type 0
-FitsAsk version (asks.Walk command) = FitsCommand version command
+abbrev pub FitsAsk : TextVersion → Ask → Type 0
+FitsAsk version (asks.Walk command) = FitsCommand (grammar_of version) command
 FitsAsk version (asks.StepsFrom first) = first < 2 ^ 63
 FitsAsk version (asks.StepsBetween first last) = (first < 2 ^ 63) × (last < 2 ^ 63)
-FitsAsk version (asks.Try step) = FitsStep step × IsOf version step
+FitsAsk version (asks.Try step) = FitsStep step × IsOf (grammar_of version) step
 FitsAsk version (asks.When piece) = FitsPiece piece
 FitsAsk version (asks.Next piece) = FitsPiece piece
 FitsAsk version (asks.Diff from to) = (from < 2 ^ 63) × (to < 2 ^ 63)
 FitsAsk version (asks.Without starter) = starter < 2 ^ 16
-FitsAsk version (asks.Why step) = FitsStep step × IsOf version step
+FitsAsk version (asks.Why step) = FitsStep step × IsOf (grammar_of version) step
 FitsAsk version (asks.OwnsOf starter) = starter < 2 ^ 16
 FitsAsk version (asks.HoldsPipe number) = number.0 < 2 ^ 8
 FitsAsk version (asks.HoldsDesc number) = number.0 < 2 ^ 8
+FitsAsk version (asks.Name process name) = (version ≡ Three) × ((1 ≤ process.0) × (process.0 ≤ 256)) × (is_name name.now ≡ true)
 FitsAsk version ask = Unit {0}
 
 -- nothing is asked for by a line that is spelled so
-abbrev pub IsNoAsk : Version → List ℕ → Type 0
+abbrev pub IsNoAsk : TextVersion → List ℕ → Type 0
 IsNoAsk version line = (ask : Ask) → FitsAsk version ask → line ≢ ask_text ask
 
 -- it is one of those that are a word or two, and have no number
@@ -98,6 +106,11 @@ IsOfNumbers (asks.OwnsOf starter) = Unit {0}
 IsOfNumbers (asks.HoldsPipe number) = Unit {0}
 IsOfNumbers (asks.HoldsDesc number) = Unit {0}
 IsOfNumbers ask = ⊥
+
+-- it is one that gives a name to a process
+abbrev pub IsOfName : Ask → Type 0
+IsOfName (asks.Name process name) = Unit {0}
+IsOfName ask = ⊥
 
 -- steps are to be let go of
 abbrev pub lets_go : Ask → Bool
@@ -159,13 +172,20 @@ abbrev pub IsPage : (List ℕ → Type 0) → Answer → Type 0
 IsPage says (answers.Page page) = says page.now
 IsPage says other = ⊥
 
-module _ (start : State) (h : List Accepted) where
+module _ (start : State) (h : List Accepted) (own : List (Option Step)) where
+  -- why a step would be refused, and what the child for which it waits was refused last
+  abbrev pub why : Step → Answer
+  why step =
+      let V = view start h in
+      let reply = answer V step in
+      answers.Why step reply (attempt_of V own (awaited_child step reply))
+
   -- why the step would be refused that was refused last, or that none was
   abbrev pub last_why : Option Step → Answer
   last_why None = answers.NothingRefused
-  last_why (Some step) = answers.Why step (answer (view start h) step)
+  last_why (Some step) = why step
 
-  -- the answer to what is asked for after the history h, where that step was refused last, and the place to which that leads. A cut lets go of no step yet
+  -- the answer to what is asked for after the history h, where those steps were refused, and the place to which that leads. A cut lets go of no step yet
   abbrev pub IsAnswer : Place → Option Step → Ask → Answer → Place → Type 0
   IsAnswer p refused (asks.Walk command) found q = Walks start p command found q
   IsAnswer p refused asks.GotoEnd found q = Walks start p (commands.Goto (length p.history)) found q
@@ -178,12 +198,13 @@ module _ (start : State) (h : List Accepted) where
   IsAnswer p refused (asks.Next piece) found q = (change : Option Change) × (found ≡ answers.Change change) × FindsNext (shown_at start p.history piece) p change q
   IsAnswer p refused (asks.Diff from to) found q = IsDiff from to (differing_between start p.history from to) found × (q ≡ p)
   IsAnswer p refused (asks.Without starter) found q = IsWithout starter (differing_without start h starter) found × (q ≡ p)
-  IsAnswer p refused (asks.Why step) found q = (found ≡ answers.Why step (answer (view start h) step)) × (q ≡ p)
+  IsAnswer p refused (asks.Why step) found q = (found ≡ why step) × (q ≡ p)
   IsAnswer p refused asks.WhyRefused found q = (found ≡ last_why refused) × (q ≡ p)
   IsAnswer p refused asks.Owns found q = (found ≡ answers.Owners) × (q ≡ p)
   IsAnswer p refused (asks.OwnsOf starter) found q = (found ≡ answers.OwnersOf starter) × (q ≡ p)
   IsAnswer p refused (asks.HoldsPipe number) found q = IsPipeHeld (held_pipe (present (view start h)) number.0) found × (q ≡ p)
   IsAnswer p refused (asks.HoldsDesc number) found q = IsDescHeld (held_desc (present (view start h)) number.0) found × (q ≡ p)
+  IsAnswer p refused (asks.Name process name) found q = (found ≡ answers.Position) × (q ≡ p)
   IsAnswer p refused asks.Cut found q = (found ≡ answers.Position) × (q ≡ p)
   IsAnswer p refused asks.Help found q = IsPage (λ page. IsTrue (is_page page)) found × (q ≡ p)
   IsAnswer p refused (asks.HelpOn word) found q = IsPage (HelpsOn word.now) found × (q ≡ p)
@@ -192,14 +213,22 @@ module _ (start : State) (h : List Accepted) where
 abbrev pub left_by : Bool → Place → Place
 left_by goes p = if goes then record { history = first_steps p.at p.history; at = p.at } else p
 
--- what is asked for is done, and its answer is printed where it led, before steps are let go of
-pub record AnswersAskIn (form : Form) (o : Origin) (p : Place) (refused : Option Step) (ask : Ask) (text : List ℕ) (q : Place) : Type 0 where
+-- what is kept beside the steps: which of them was refused last, of each process its last step where that was refused, and the names that were given to
+-- processes
+pub record Kept : Type 0 where
+  pub refused : Option Step
+  pub own : List (Option Step)
+  pub names : List NameAt
+
+-- what is asked for is done, and its answer is printed where it led, with the names of processes there, before steps are let go of and names are kept
+pub record AnswersAskIn (form : Form) (o : Origin) (p : Place) (before : Kept) (ask : Ask) (text : List ℕ) (q : Place) (behind : Kept) : Type 0 where
   pub found : Answer
   pub there : Place
-  pub is : IsAnswer (start_in o) (first_steps p.at p.history) p refused ask found there
+  pub is : IsAnswer (start_in o) (first_steps p.at p.history) before.own p before.refused ask found there
   pub kept : there.history ≡ p.history
-  pub says : SaysAnswer form o (first_steps there.at there.history) there found text
+  pub says : SaysAnswer form o (names_at o.count there before.names) (first_steps there.at there.history) there found text
   pub after : q ≡ left_by (lets_go ask) there
+  pub names : behind ≡ record before { names = names_by ask there.at before.names }
 
 -- what a line means is a step
 pub record IsStepLine (o : Origin) (words : List ℕ) (step : Step) : Type 0 where
@@ -210,26 +239,40 @@ pub record IsStepLine (o : Origin) (words : List ℕ) (step : Step) : Type 0 whe
 -- it is no step, and asks for that
 pub record IsAskLine (o : Origin) (words : List ℕ) (ask : Ask) : Type 0 where
   pub no_step : IsNoStep (grammar_of o.version) words
-  pub fits : FitsAsk (grammar_of o.version) ask
+  pub fits : FitsAsk o.version ask
   pub spelled : words ≡ ask_text ask
 
 -- it is neither: what is wrong with the line is told, and nothing changes
 pub record AnswersNeither (form : Form) (o : Origin) (p : Place) (line words text : List ℕ) (q : Place) : Type 0 where
   pub no_step : IsNoStep (grammar_of o.version) words
-  pub no_ask : IsNoAsk (grammar_of o.version) words
+  pub no_ask : IsNoAsk o.version words
   pub tells : TellsIn form line text
   pub stays : q ≡ p
 
--- which step was refused last: a step that was to be made and led nowhere, or else the one before
-abbrev pub refused_by : Place → Step → Place → Option Step → Option Step
-refused_by p step q before = if nat_eq p.at (length p.history) && nat_eq (length q.history) (length p.history) then Some step else before
+-- the last steps of all processes, once it is known which one process has, where there is one of that number
+abbrev pub own_with : Option ℕ → Option Step → List (Option Step) → List (Option Step)
+own_with None last own = own
+own_with (Some q) last own = if is_between (length own) q then with_slot own q last else own
 
--- a line that means those words is a step, or else asks for something, or else is neither, and is answered as such. A step was refused last before
--- it, and one behind it
-abbrev pub AnswersWords : Form → Origin → Place → Option Step → List ℕ → List ℕ → List ℕ → Place → Option Step → Type 0
+-- what is kept once a step was refused, and once one was accepted: a process that it forks has made no step
+abbrev pub kept_refused : Step → Kept → Kept
+kept_refused step before = record before { refused = Some step; own = own_with (maker step) (Some step) before.own }
+
+abbrev pub kept_accepted : Step → Kept → Kept
+kept_accepted step before = record before { own = own_with (forked step) None (own_with (maker step) None before.own) }
+
+-- what is kept after a step that was to be made, which was refused where it led nowhere; one that was not to be made changes nothing
+abbrev pub kept_by : Place → Step → Place → Kept → Kept
+kept_by p step q before =
+    if nat_eq p.at (length p.history)
+    then (if nat_eq (length q.history) (length p.history) then kept_refused step before else kept_accepted step before) else before
+
+-- a line that means those words is a step, or else asks for something, or else is neither, and is answered as such. What was kept before it leads to
+-- what is kept after it
+abbrev pub AnswersWords : Form → Origin → Place → Kept → List ℕ → List ℕ → List ℕ → Place → Kept → Type 0
 AnswersWords form o p before line words text q after =
-    ((step : Step) × IsStepLine o words step × AnswersStep form (start_in o) p step text q × (after ≡ refused_by p step q before))
-    ⊎ (((ask : Ask) × IsAskLine o words ask × AnswersAskIn form o p before ask text q × (after ≡ before))
+    ((step : Step) × IsStepLine o words step × AnswersStep form (start_in o) p step text q × (after ≡ kept_by p step q before))
+    ⊎ (((ask : Ask) × IsAskLine o words ask × AnswersAskIn form o p before ask text q after)
     ⊎ (AnswersNeither form o p line words text q × (after ≡ before)))
 
 -- the position to which what is asked for leads at the furthest

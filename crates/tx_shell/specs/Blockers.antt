@@ -12,11 +12,11 @@ use Rattle.tx_model.specs.Footprints.{footprint}
 use Rattle.tx_model.specs.State.{State, has_object}
 use Rattle.tx_model.specs.View.{present, view}
 use Rattle.tx_reserve.specs.Objects.{is_small}
-use Rattle.tx_shell.specs.Holders.{each_below}
-use Rattle.tx_shell.specs.Kinds.{limit_of, object_in}
+use Rattle.tx_waits.specs.Holders.{each_below}
+use Rattle.tx_waits.specs.Kinds.{limit_of, object_in}
 use Rattle.tx_shell.specs.declared.questions.blockers.Blocker.{Blocker}
-use Rattle.tx_shell.specs.declared.questions.kinds.Kind.{Kind}
-use Rattle.tx_shell.specs.declared.questions.kinds.Kind.TheVariants.{Processes, Descriptions, Pipes}
+use Rattle.tx_waits.specs.declared.kinds.Kind.{Kind}
+use Rattle.tx_waits.specs.declared.kinds.Kind.TheVariants.{Processes, Descriptions, Pipes}
 
 -- an object that the transaction of a starter has, and the first step since which it has it
 pub record Blocked : Type 0 where

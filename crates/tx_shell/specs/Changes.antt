@@ -6,10 +6,10 @@ use Rattle.tx_journal.specs.Entries.{history_of}
 use Rattle.tx_journal.specs.Pieces.{piece_text}
 use Rattle.tx_journal.specs.Sessions.{SessionState, start_of}
 use Rattle.tx_journal.specs.declared.pieces.Piece.{Piece}
-use Rattle.tx_lines.specs.Lines.{step_text}
 use Rattle.tx_model.specs.State.{State}
 use Rattle.tx_script.specs.Debug.{view_at}
 use Rattle.tx_shell.specs.Differences.{differing}
+use Rattle.tx_shell.specs.Names.{step_made_text, Names}
 use Rattle.tx_shell.specs.Places.{Place}
 use Rattle.tx_shell.specs.declared.questions.changes.Change.{Change}
 
@@ -76,12 +76,12 @@ pub record FindsNext (shown : ℕ → List ℕ) (p : Place) (found : Option Chan
   pub outcome : MatchOption found (StaysSame shown p q) (λ change. ChangesNext shown p change q)
 
 -- the step of that number is told, and by which lines they differ
-pub record TellsStep (history : List Accepted) (number : ℕ) (before after text : List ℕ) : Type 0 where
+pub record TellsStep (names : Names) (history : List Accepted) (number : ℕ) (before after text : List ℕ) : Type 0 where
   pub entry : Accepted
   pub made : slice_get (reverse history) (number - 1) ≡ Some entry
-  pub told : text ≡ codes "at " ++ (decimal number ++ (codes ": " ++ (step_text entry.step ++ 10 ∷ differing before after)))
+  pub told : text ≡ codes "at " ++ (decimal number ++ (codes ": " ++ (step_made_text names entry.step ++ 10 ∷ differing before after)))
 
 -- what was found is told: the step directly before the position, or that there is none
-abbrev pub TellsFound : List Accepted → ℕ → Option Change → List ℕ → Type 0
-TellsFound history at found text =
-    MatchOption found (text ≡ codes "at " ++ (decimal at ++ codes ": no change\n")) (λ change. TellsStep history at (string_bytes change.before) (string_bytes change.after) text)
+abbrev pub TellsFound : Names → List Accepted → ℕ → Option Change → List ℕ → Type 0
+TellsFound names history at found text =
+    MatchOption found (text ≡ codes "at " ++ (decimal at ++ codes ": no change\n")) (λ change. TellsStep names history at (string_bytes change.before) (string_bytes change.after) text)

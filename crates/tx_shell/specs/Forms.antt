@@ -1,5 +1,5 @@
 -- How each form prints answers.
-use Rattle.std.specs.Prelude.{◌≡◌, ℕ, List, [], ◌∷◌, ◌++◌, ◌≤◌, IfSome, None, Some, codes, option_map, string_bytes}
+use Rattle.std.specs.Prelude.{◌≡◌, ℕ, Bool, false, true, List, [], ◌∷◌, ◌++◌, ◌≤◌, IfSome, None, Some, codes, option_map, string_bytes, if◌then◌else◌}
 use Rattle.json.specs.Token.{Token}
 use Rattle.tx_base.specs.declared.steps.Accepted.{Accepted}
 use Rattle.tx_base.specs.declared.steps.Reply.{Reply}
@@ -12,14 +12,16 @@ use Rattle.tx_model.specs.State.{State}
 use Rattle.tx_model.specs.View.{view}
 use Rattle.tx_script.specs.Debug.{first_steps, position_text, responded_in, response_text}
 use Rattle.tx_script.specs.JsonLines.{response_line}
+use Rattle.tx_shell.specs.Attempts.{child_member}
 use Rattle.tx_shell.specs.Changes.{TellsFound}
 use Rattle.tx_shell.specs.Held.{desc_held, desc_members, desc_text, pipe_held, pipe_members, pipe_text}
 use Rattle.tx_shell.specs.Journals.{schedule_so_far, steps_listed, steps_made}
 use Rattle.tx_shell.specs.Members.{change_member, compared_members, not_compared_members, owner_member, owners_member, steps_member, why_members}
+use Rattle.tx_shell.specs.Names.{names_member, Names}
 use Rattle.tx_shell.specs.Origins.{Origin, start_in}
 use Rattle.tx_shell.specs.Owners.{or_no_transaction, owner_line, owner_lines}
 use Rattle.tx_shell.specs.Places.{Place}
-use Rattle.tx_shell.specs.Reasons.{TellsWhy}
+use Rattle.tx_shell.specs.Whys.{TellsWhy}
 use Rattle.tx_shell.specs.declared.answers.answer.Answer.TheVariants as answers
 use Rattle.tx_shell.specs.declared.answers.answer.Answer.{Answer}
 use Rattle.tx_script.specs.declared.forms.Form.TheVariants.{Text, Json}
@@ -67,25 +69,25 @@ pub record PrintsSchedule (o : Origin) (p : Place) (text : List ℕ) : Type 0 wh
   pub told : text ≡ schedule_so_far o p
   pub leads : history_of (start_in o) [] (steps_made p) ≡ first_steps p.at p.history
 
--- an answer as text, at a place up to which the steps of the history h are made
-abbrev pub TellsAnswer : Origin → List Accepted → Place → Answer → List ℕ → Type 0
-TellsAnswer o h p (answers.Walked response) text = text ≡ response_text (start_in o) p.history p.at (responded_in response)
-TellsAnswer o h p answers.Position text = text ≡ position_text p.at
-TellsAnswer o h p (answers.Steps first last) text = text ≡ steps_listed p first last
-TellsAnswer o h p answers.Schedule text = PrintsSchedule o p text
-TellsAnswer o h p (answers.Trial reply differences) text = text ≡ named_reply_text reply ++ 10 ∷ string_bytes differences
-TellsAnswer o h p (answers.Without starter None) text = text ≡ codes "no transaction\n"
-TellsAnswer o h p (answers.Without starter (Some differences)) text = text ≡ string_bytes differences
-TellsAnswer o h p (answers.Diff from to None) text = text ≡ codes "no place\n"
-TellsAnswer o h p (answers.Diff from to (Some differences)) text = text ≡ string_bytes differences
-TellsAnswer o h p (answers.Change found) text = TellsFound p.history p.at found text
-TellsAnswer o h p (answers.Why step reply) text = TellsWhy (start_in o) h step reply text
-TellsAnswer o h p answers.NothingRefused text = text ≡ codes "nothing was refused\n"
-TellsAnswer o h p answers.Owners text = text ≡ or_no_transaction (owner_lines (view (start_in o) h))
-TellsAnswer o h p (answers.OwnersOf starter) text = text ≡ or_no_transaction (owner_line (view (start_in o) h) starter)
-TellsAnswer o h p (answers.PipeHolders found) text = text ≡ pipe_text (option_map pipe_held found)
-TellsAnswer o h p (answers.DescHolders found) text = text ≡ desc_text (option_map desc_held found)
-TellsAnswer o h p (answers.Page page) text = text ≡ page.now
+-- an answer as text, at a place up to which the steps of the history h are made, where processes have those names
+abbrev pub TellsAnswer : Origin → Names → List Accepted → Place → Answer → List ℕ → Type 0
+TellsAnswer o names h p (answers.Walked response) text = text ≡ response_text (start_in o) p.history p.at (responded_in response)
+TellsAnswer o names h p answers.Position text = text ≡ position_text p.at
+TellsAnswer o names h p (answers.Steps first last) text = text ≡ steps_listed p first last
+TellsAnswer o names h p answers.Schedule text = PrintsSchedule o p text
+TellsAnswer o names h p (answers.Trial reply differences) text = text ≡ named_reply_text reply ++ 10 ∷ string_bytes differences
+TellsAnswer o names h p (answers.Without starter None) text = text ≡ codes "no transaction\n"
+TellsAnswer o names h p (answers.Without starter (Some differences)) text = text ≡ string_bytes differences
+TellsAnswer o names h p (answers.Diff from to None) text = text ≡ codes "no place\n"
+TellsAnswer o names h p (answers.Diff from to (Some differences)) text = text ≡ string_bytes differences
+TellsAnswer o names h p (answers.Change found) text = TellsFound names p.history p.at found text
+TellsAnswer o names h p (answers.Why step reply attempt) text = TellsWhy names (start_in o) h step attempt reply text
+TellsAnswer o names h p answers.NothingRefused text = text ≡ codes "nothing was refused\n"
+TellsAnswer o names h p answers.Owners text = text ≡ or_no_transaction (owner_lines names (view (start_in o) h))
+TellsAnswer o names h p (answers.OwnersOf starter) text = text ≡ or_no_transaction (owner_line names (view (start_in o) h) starter)
+TellsAnswer o names h p (answers.PipeHolders found) text = text ≡ pipe_text names (option_map pipe_held found)
+TellsAnswer o names h p (answers.DescHolders found) text = text ≡ desc_text names (option_map desc_held found)
+TellsAnswer o names h p (answers.Page page) text = text ≡ page.now
 
 -- what JSON has of an answer after the lines of its text
 abbrev pub answer_members : State → List Accepted → Place → Answer → List Token
@@ -95,28 +97,43 @@ answer_members start h p (answers.Without starter (Some differences)) = count_me
 answer_members start h p (answers.Diff from to None) = not_compared_members
 answer_members start h p (answers.Diff from to (Some differences)) = compared_members from to
 answer_members start h p (answers.Change found) = change_member p found
-answer_members start h p (answers.Why step reply) = why_members start h step reply
+answer_members start h p (answers.Why step reply attempt) = why_members start h step reply ++ child_member start h attempt
 answer_members start h p answers.Owners = owners_member (view start h)
 answer_members start h p (answers.OwnersOf starter) = owner_member (view start h) starter
 answer_members start h p (answers.PipeHolders found) = pipe_members (option_map pipe_held found)
 answer_members start h p (answers.DescHolders found) = desc_members (option_map desc_held found)
 answer_members start h p answer = []
 
+-- whether an answer shows the names of processes
+abbrev pub shows_names : Answer → Bool
+shows_names (answers.Change found) = true
+shows_names (answers.Why step reply attempt) = true
+shows_names answers.NothingRefused = true
+shows_names answers.Owners = true
+shows_names (answers.OwnersOf starter) = true
+shows_names (answers.PipeHolders found) = true
+shows_names (answers.DescHolders found) = true
+shows_names answer = false
+
+-- and the names, where it shows them
+abbrev pub members_and_names : State → Names → List Accepted → Place → Answer → List Token
+members_and_names start names h p answer = answer_members start h p answer ++ (if shows_names answer then names_member names else [])
+
 -- the position, those lines, and that
-pub record SaysLines (o : Origin) (h : List Accepted) (p : Place) (answer : Answer) (text : List ℕ) : Type 0 where
+pub record SaysLines (o : Origin) (names : Names) (h : List Accepted) (p : Place) (answer : Answer) (text : List ℕ) : Type 0 where
   pub told : List ℕ
-  pub tells : TellsAnswer o h p answer told
-  pub says : IsLineOf (lines_with p.at told (answer_members (start_in o) h p answer)) text
+  pub tells : TellsAnswer o names h p answer told
+  pub says : IsLineOf (lines_with p.at told (members_and_names (start_in o) names h p answer)) text
 
 -- an answer as JSON: of a command of the debugger the line that a text for it has, of a trial the reply and the lines that differ, of a cut the position,
 -- and of all else the lines of its text
-abbrev pub SaysJson : Origin → List Accepted → Place → Answer → List ℕ → Type 0
-SaysJson o h p (answers.Walked response) text = IsLineOf (response_line (start_in o) p.history p.at (responded_in response)) text
-SaysJson o h p answers.Position text = IsLineOf (position_answer p.at) text
-SaysJson o h p (answers.Trial reply differences) text = IsLineOf (trial_answer p.at reply (string_bytes differences)) text
-SaysJson o h p answer text = SaysLines o h p answer text
+abbrev pub SaysJson : Origin → Names → List Accepted → Place → Answer → List ℕ → Type 0
+SaysJson o names h p (answers.Walked response) text = IsLineOf (response_line (start_in o) p.history p.at (responded_in response)) text
+SaysJson o names h p answers.Position text = IsLineOf (position_answer p.at) text
+SaysJson o names h p (answers.Trial reply differences) text = IsLineOf (trial_answer p.at reply (string_bytes differences)) text
+SaysJson o names h p answer text = SaysLines o names h p answer text
 
 -- an answer in a form
-abbrev pub SaysAnswer : Form → Origin → List Accepted → Place → Answer → List ℕ → Type 0
-SaysAnswer Text o h p answer text = TellsAnswer o h p answer text
-SaysAnswer Json o h p answer text = SaysJson o h p answer text
+abbrev pub SaysAnswer : Form → Origin → Names → List Accepted → Place → Answer → List ℕ → Type 0
+SaysAnswer Text o names h p answer text = TellsAnswer o names h p answer text
+SaysAnswer Json o names h p answer text = SaysJson o names h p answer text

@@ -7,7 +7,9 @@ use Rattle.tx_json.specs.Holders.{holders_member}
 use Rattle.tx_json.specs.Members.{count_member, null_member, word_member}
 use Rattle.tx_json.specs.declared.holders.Holder.{Holder}
 use Rattle.tx_model.specs.State.{Description, ReadSide, Side, State, WriteSide}
-use Rattle.tx_shell.specs.Holders.{desc_holders, holder_text, holders, holders_line, next_text, side_word}
+use Rattle.tx_shell.specs.Holders.{holder_text, holders_line, next_text, side_word}
+use Rattle.tx_waits.specs.Holders.{desc_holders, holders}
+use Rattle.tx_shell.specs.Names.{Names}
 use Rattle.tx_shell.specs.declared.questions.held.DescHolders.{DescHolders}
 use Rattle.tx_shell.specs.declared.questions.held.PipeHolders.{PipeHolders}
 use Rattle.tx_text.specs.Each.{each_text}
@@ -37,21 +39,22 @@ held_pipe S k = if is_some (S.pipes k) then Some (record { readers = holders S R
 abbrev pub held_desc : State → ℕ → Option HeldDesc
 held_desc S d = option_map (λ (description : Description). record { pipe = description.pipe; side = description.side; holders = desc_holders S d }) (S.descs d)
 
--- a line for each side of the pipe
-abbrev pub pipe_text : Option HeldPipe → List ℕ
-pipe_text None = codes "no pipe\n"
-pipe_text (Some held) = holders_line ReadSide held.readers ++ holders_line WriteSide held.writers
+module _ (names : Names) where
+  -- a line for each side of the pipe
+  abbrev pub pipe_text : Option HeldPipe → List ℕ
+  pipe_text None = codes "no pipe\n"
+  pipe_text (Some held) = holders_line names ReadSide held.readers ++ holders_line names WriteSide held.writers
 
--- the descriptors, or that there are none
-abbrev pub named_text : List Holder → List ℕ
-named_text [] = codes "nobody has it open"
-named_text (first ∷ others) = codes "descriptor " ++ (holder_text first ++ each_text next_text others)
+  -- the descriptors, or that there are none
+  abbrev pub named_text : List Holder → List ℕ
+  named_text [] = codes "nobody has it open"
+  named_text (first ∷ others) = codes "descriptor " ++ (holder_text names first ++ each_text (next_text names) others)
 
--- which side of which pipe a description is, and by which descriptors it is open
-abbrev pub desc_text : Option HeldDesc → List ℕ
-desc_text None = codes "no description\n"
-desc_text (Some held) =
-    codes "it is the " ++ (side_word held.side ++ (codes " side of pipe " ++ (decimal held.pipe ++ (codes ": " ++ (named_text held.holders ++ 10 ∷ [])))))
+  -- which side of which pipe a description is, and by which descriptors it is open
+  abbrev pub desc_text : Option HeldDesc → List ℕ
+  desc_text None = codes "no description\n"
+  desc_text (Some held) =
+      codes "it is the " ++ (side_word held.side ++ (codes " side of pipe " ++ (decimal held.pipe ++ (codes ": " ++ (named_text held.holders ++ 10 ∷ [])))))
 
 -- what JSON has of them after these lines
 abbrev pub pipe_members : Option HeldPipe → List Token

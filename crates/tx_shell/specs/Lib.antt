@@ -1,4 +1,5 @@
 pub mod Answers
+pub mod Attempts
 pub mod Blockers
 pub mod Changes
 pub mod Comparisons
@@ -9,9 +10,9 @@ pub mod Forms
 pub mod Held
 pub mod Holders
 pub mod Journals
-pub mod Kinds
 pub mod Meanings
 pub mod Members
+pub mod Names
 pub mod Origins
 pub mod Owners
 pub mod Pieces
@@ -19,3 +20,4 @@ pub mod Places
 pub mod Reasons
 pub mod Spelled
 pub mod Standings
+pub mod Whys

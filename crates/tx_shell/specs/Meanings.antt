@@ -1,9 +1,11 @@
 -- What a line means.
 use Rattle.std.specs.Prelude.{ℕ, ◌+◌, ◌-◌, Bool, not, ◌&&◌, ◌||◌, List, [], ◌∷◌, ◌++◌, Option, None, Some, codes, drop, length, nat_lt, option_map, if◌then◌else◌}
+use Rattle.std.specs.Fmt.{decimal}
 use Rattle.std.specs.Str.{bytes_eq}
 use Rattle.tx_lines.specs.Schedule.{first_line}
 use Rattle.tx_lines.specs.declared.read.header.TextKind.TheVariants.{Schedule}
 use Rattle.tx_plain.specs.Lines.{plain_line}
+use Rattle.tx_plain.specs.Names.{naming_in}
 use Rattle.tx_plain.specs.OwnLines.{without_return}
 use Rattle.tx_plain.specs.Words.{columns_in, words_in}
 use Rattle.tx_plain.specs.declared.stage.Stage.TheVariants.{Within}
@@ -34,13 +36,25 @@ after_word line = drop (first_or 1 (columns_in line) - 1 + length (first_word li
 abbrev pub asks_of_step : List ℕ → Bool
 asks_of_step word = bytes_eq word (codes "try") || bytes_eq word (codes "why")
 
--- what a line of version 3 means among the steps of a text; where its first word asks about a step, that is a line of its own. One of too many bytes
--- means itself
+-- the words that give a name to a process
+abbrev pub naming_words : ℕ × List ℕ → List ℕ
+naming_words named = codes "name " ++ (decimal named.0 ++ 32 ∷ named.1)
+
+-- what a line means, or where it means none, which name it gives to a process
+abbrev pub or_naming : Option (List ℕ) → Option (ℕ × List ℕ) → Option (List ℕ)
+or_naming (Some words) naming = Some words
+or_naming None naming = option_map naming_words naming
+
+abbrev pub own_line : List ℕ → Option (List ℕ)
+own_line line = or_naming (plain_line (Within Schedule) line) (naming_in line)
+
+-- what a line of version 3 means among the steps of a text; where its first word asks about a step, that is a line of its own. One that gives a
+-- name to a process means itself, and so does one of too many bytes
 abbrev pub third_line : List ℕ → Option (List ℕ)
 third_line line =
     if not (nat_lt 512 (length line)) && asks_of_step (first_word line)
     then Some (with_step (first_word line) (plain_line (Within Schedule) (without_return (after_word line))))
-    else plain_line (Within Schedule) (without_return line)
+    else own_line (without_return line)
 
 -- what a line of a version spells, before other words for the same are looked at. A byte 10 would end it
 abbrev pub spelled_line : TextVersion → List ℕ → Option (List ℕ)

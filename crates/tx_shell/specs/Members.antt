@@ -16,15 +16,15 @@ use Rattle.tx_model.specs.Membership.{is_live}
 use Rattle.tx_model.specs.State.{State}
 use Rattle.tx_model.specs.View.{View, view}
 use Rattle.tx_shell.specs.Blockers.{blocked_by, Blocked}
-use Rattle.tx_shell.specs.Holders.{awaited_by}
+use Rattle.tx_waits.specs.Holders.{awaited_by}
 use Rattle.tx_shell.specs.Journals.{by_number}
-use Rattle.tx_shell.specs.Kinds.{limit_of, list_of}
+use Rattle.tx_waits.specs.Kinds.{limit_of, list_of}
 use Rattle.tx_shell.specs.Owners.{owns_one}
 use Rattle.tx_shell.specs.Places.{Place}
 use Rattle.tx_shell.specs.Reasons.{name_text}
 use Rattle.tx_shell.specs.declared.questions.changes.Change.{Change}
-use Rattle.tx_shell.specs.declared.questions.kinds.Kind.{Kind}
-use Rattle.tx_shell.specs.declared.questions.kinds.Kind.TheVariants.{Processes, Descriptions, Pipes}
+use Rattle.tx_waits.specs.declared.kinds.Kind.{Kind}
+use Rattle.tx_waits.specs.declared.kinds.Kind.TheVariants.{Processes, Descriptions, Pipes}
 
 -- a step that was made: its number, its worker, which is 1, the step, and its reply
 abbrev pub step_tokens : ℕ → Accepted → List Token

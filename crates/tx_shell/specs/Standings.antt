@@ -1,39 +1,47 @@
 -- Where a talk stands, and how a line leads it on.
-use Rattle.std.specs.Prelude.{◌≡◌, ◌≢◌, ◌⊎◌, ℕ, Bool, false, true, List, [], Option, Some, None, codes}
-use Rattle.tx_base.specs.declared.steps.Step.{Step}
-use Rattle.tx_shell.specs.Answers.{AnswersWords, StopsShortOf}
+use Rattle.std.specs.Prelude.{◌≡◌, ◌≢◌, ◌⊎◌, ℕ, Bool, false, true, List, [], Option, Some, None, codes, map, replicate}
+use Rattle.tx_shell.specs.Answers.{AnswersWords, Kept, StopsShortOf}
 use Rattle.tx_shell.specs.Forms.{SaysNothing, SaysPosition}
 use Rattle.tx_shell.specs.Meanings.{meant_line}
+use Rattle.tx_shell.specs.Names.{given_as}
 use Rattle.tx_shell.specs.Origins.{Origin, SaysNoOrigin, SaysOrigin}
 use Rattle.tx_shell.specs.Places.{origin_of, Place, place_of}
 use Rattle.tx_script.specs.declared.forms.Form.{Form}
+use Rattle.tx_shell.specs.declared.answers.Interpreter.{Interpreter}
 use Rattle.tx_shell.specs.declared.shell.Shell.{Shell}
 use Rattle.tx_shell.specs.declared.lines.versions.TextVersion.TheVariants.{Three}
 
--- in which form it is answered, how it began, whether a header may still come, where its session stands, and which of its steps was refused last
+-- in which form it is answered, how it began, whether a header may still come, where its session stands, and what is kept beside its steps
 pub record Standing : Type 0 where
   pub form : Form
   pub origin : Origin
   pub is_fresh : Bool
   pub place : Place
-  pub refused : Option Step
+  pub kept : Kept
+
+abbrev pub kept_of : Interpreter → Kept
+kept_of i = record { refused = i.refused.last; own = i.refused.own; names = map given_as i.given.items }
 
 abbrev pub standing_of : Shell → Standing
 standing_of shell =
     let i = shell.interpreter in
-    record { form = i.form; origin = origin_of i.version i.session; is_fresh = shell.is_fresh; place = place_of i.session; refused = i.refused }
+    record { form = i.form; origin = origin_of i.version i.session; is_fresh = shell.is_fresh; place = place_of i.session; kept = kept_of i }
 
 -- no step is made
 abbrev pub at_start : Place
 at_start = record { history = []; at = 0 }
 
+-- no step was refused, and no process has a name
+abbrev pub nothing_kept : Kept
+nothing_kept = record { refused = None; own = replicate 256 None; names = [] }
+
 -- a talk that begins so, and has no header before it any more
 abbrev pub begun_by : Form → Origin → Standing
-begun_by form o = record { form = form; origin = o; is_fresh = false; place = at_start; refused = None }
+begun_by form o = record { form = form; origin = o; is_fresh = false; place = at_start; kept = nothing_kept }
 
 -- without a header it begins as a text of version 3 with two processes
 abbrev pub first_standing : Form → Standing
-first_standing form = record { form = form; origin = record { version = Three; width = 256; count = 2 }; is_fresh = true; place = at_start; refused = None }
+first_standing form = record { form = form; origin = record { version = Three; width = 256; count = 2 }; is_fresh = true; place = at_start; kept = nothing_kept }
 
 -- a header may come, and is there: the talk begins as it says
 pub record Opens (s : Standing) (line text : List ℕ) (t : Standing) : Type 0 where
@@ -43,15 +51,15 @@ pub record Opens (s : Standing) (line text : List ℕ) (t : Standing) : Type 0 w
   pub form : t.form ≡ s.form
   pub begun : t.is_fresh ≡ false
   pub place : t.place ≡ at_start
-  pub refused : t.refused ≡ None
+  pub kept : t.kept ≡ nothing_kept
 
 -- no header may come, or none is there
 abbrev pub IsNoHeader : Standing → List ℕ → Type 0
 IsNoHeader s line = (s.is_fresh ≡ false) ⊎ SaysNoOrigin line
 
--- it goes on at that place, and no header may come; that step was refused last
-abbrev pub going_on : Standing → Place → Option Step → Standing
-going_on s q refused = record { form = s.form; origin = s.origin; is_fresh = false; place = q; refused = refused }
+-- it goes on at that place, with what is kept then, and no header may come
+abbrev pub going_on : Standing → Place → Kept → Standing
+going_on s q kept = record { form = s.form; origin = s.origin; is_fresh = false; place = q; kept = kept }
 
 -- what ends a talk
 abbrev pub quit_line : List ℕ
@@ -61,7 +69,7 @@ quit_line = codes "quit"
 abbrev pub AnswersMeant : Standing → List ℕ → Option (List ℕ) → List ℕ → Standing → Type 0
 AnswersMeant s line None text t = SaysNothing s.form text × (t ≡ s)
 AnswersMeant s line (Some words) text t =
-    (words ≢ quit_line) × ((q : Place) × ((refused : Option Step) × AnswersWords s.form s.origin s.place s.refused line words text q refused × (t ≡ going_on s q refused)))
+    (words ≢ quit_line) × ((q : Place) × ((kept : Kept) × AnswersWords s.form s.origin s.place s.kept line words text q kept × (t ≡ going_on s q kept)))
 
 -- how a line is answered, and where the talk stands then
 abbrev pub Answers : Standing → List ℕ → List ℕ → Standing → Type 0

@@ -1,9 +1,12 @@
 //! Answers what a line means.
-ghost use Rattle.std.specs.Prelude.{◌≡◌, IfOk, OnErr, OnOk, Some, length, string_bytes};
-ghost use Rattle.tx_journal.specs.Sessions.{start_of, SameBoot};
+ghost use Rattle.std.specs.Prelude.{◌≡◌, IfOk, OnErr, OnOk, length, string_bytes};
+ghost use Rattle.tx_journal.specs.Sessions.{made_of, position_of, start_of, SameBoot};
 ghost use Rattle.tx_journal.specs.Entries.{history_of};
-ghost use Rattle.tx_shell.specs.Answers.{left_by, refused_by, AnswersAskIn, AnswersStep, AnswersWords, StopsShort, StopsShortOf};
+ghost use Rattle.tx_shell.specs.Answers.{kept_by, left_by, AnswersAskIn, AnswersStep, AnswersWords, StopsShort, StopsShortOf};
+ghost use Rattle.tx_shell.specs.Forms.{IsPlaced, SaysAnswer};
+ghost use Rattle.tx_shell.specs.Names.{names_at};
 ghost use Rattle.tx_shell.specs.Places.{origin_of, place_of};
+ghost use Rattle.tx_shell.specs.Standings.{kept_of};
 
 pub mod answer;
 pub mod as_json;
@@ -11,16 +14,19 @@ pub mod as_text;
 pub mod forms;
 pub mod helps;
 pub mod journals;
+pub mod refused;
 pub mod reserving;
 pub mod steps;
 pub mod tells;
 
-use crate::answers::answer::find_answer;
+use crate::answers::answer::{Answer, find_answer};
 use crate::answers::forms::say_answer;
+use crate::answers::refused::Refused;
 use crate::answers::steps::answer_step;
 use crate::answers::tells::tell_in;
 use crate::lines::asks::{Ask, read_ask};
 use crate::lines::versions::TextVersion;
+use crate::names::{Given, Names, forked_by, keep_names, maker_of};
 use std::alloc::Global;
 use tx_base::{NoMemory, Reply, Step};
 use tx_journal::Session;
@@ -33,13 +39,15 @@ pub struct Interpreter {
     pub form: Form,
     pub version: TextVersion,
     pub session: Session,
-    /// The last of its steps that was to be made and was refused.
-    pub refused: Option<Step>,
+    /// Which of its steps were refused.
+    pub refused: Refused,
+    /// The names that were given to processes, in that order.
+    pub given: Vec<Given>,
 }
 
 impl Interpreter {
     /// Does what a line says, which means those words, and puts its answer in place of what the text had.
-    /// Keeps which step was refused last.
+    /// Keeps which step was refused last, and the names of processes.
     ///
     /// NoMemory where a growth is refused: no step came or went then, and the position is the old one, or
     /// lies between that and the one that is asked for. The text has nothing to be shown.
@@ -52,12 +60,12 @@ impl Interpreter {
     ) -> Result<(), NoMemory>
         ensures answer { OnOk result
             (AnswersWords self.old.form (origin_of self.old.version self.old.session)
-            (place_of self.old.session) self.old.refused line.now words.now (string_bytes text.new)
-            (place_of self.new.session) self.new.refused) }
+            (place_of self.old.session) (kept_of self.old) line.now words.now (string_bytes text.new)
+            (place_of self.new.session) (kept_of self.new)) }
         ensures stops { OnErr result
             (StopsShortOf (origin_of self.old.version self.old.session) (place_of self.old.session)
             words.now (place_of self.new.session)) }
-        ensures kept { OnErr result (self.new.refused ≡ self.old.refused) }
+        ensures kept { OnErr result (kept_of self.new ≡ kept_of self.old) }
         ensures boot { SameBoot self.new.session self.old.session }
         ensures form { self.new.form ≡ self.old.form }
         ensures version { self.new.version ≡ self.old.version }
@@ -67,7 +75,7 @@ impl Interpreter {
             let mut reply = Reply::Ended;
             return self.answer_step_line(alloc, step, &mut reply, text);
         }
-        if let Some(ask) = read_ask(self.version.grammar(), words) {
+        if let Some(ask) = read_ask(self.version, words) {
             *text = self.answer_ask(alloc, ask)?;
             return Ok(());
         }
@@ -76,7 +84,8 @@ impl Interpreter {
     }
 
     /// Makes a step, puts its reply where it is to stand, and its answer in place of what the text had.
-    /// Keeps the step where it was to be made and was refused.
+    /// Keeps the step where it was to be made and was refused. Where it was accepted, lets go of those that
+    /// were kept of its process, and of the one that it forks.
     ///
     /// NoMemory where a growth is refused; no step came or went then. The text has nothing to be shown.
     pub fn answer_step_line(
@@ -89,25 +98,33 @@ impl Interpreter {
         ensures answer { OnOk result
             (AnswersStep self.old.form (start_of self.old.session) (place_of self.old.session)
             step.old (string_bytes text.new) (place_of self.new.session)) }
-        ensures kept { OnOk result (self.new.refused
-            ≡ refused_by (place_of self.old.session) step.old (place_of self.new.session)
-            self.old.refused) }
+        ensures kept { OnOk result (kept_of self.new
+            ≡ kept_by (place_of self.old.session) step.old (place_of self.new.session)
+            (kept_of self.old)) }
         ensures stops { OnErr result (place_of self.new.session ≡ place_of self.old.session) }
-        ensures same { OnErr result (self.new.refused ≡ self.old.refused) }
+        ensures same { OnErr result (kept_of self.new ≡ kept_of self.old) }
         ensures boot { SameBoot self.new.session self.old.session }
         ensures form { self.new.form ≡ self.old.form }
         ensures version { self.new.version ≡ self.old.version }
     {
         let count = count_steps(&self.session);
         let is_at_end = self.session.position() == count;
+        let (maker, child) = (maker_of(step), forked_by(step));
         answer_step(alloc, self.form, &mut self.session, step, reply, text)?;
-        if is_at_end && count_steps(&self.session) == count {
-            keep_step(&mut self.refused, step);
+        if !is_at_end {
+            return Ok(());
+        }
+        if count_steps(&self.session) == count {
+            self.refused.keep(step);
+        } else {
+            self.refused.let_go(maker);
+            self.refused.let_go(child);
         }
         Ok(())
     }
 
-    /// Does what is asked for, and answers it. A cut lets go of steps once its answer is printed.
+    /// Does what is asked for, and answers it. A cut lets go of steps once its answer is printed, and a
+    /// name is kept then.
     ///
     /// NoMemory where a growth is refused: no step came or went then, and the position lies between the
     /// old one and that which is asked for.
@@ -115,27 +132,39 @@ impl Interpreter {
     fn answer_ask(&mut self, alloc: Global, ask: Ask<'_>) -> Result<String, NoMemory>
         ensures answer { IfOk result (λ text.
             AnswersAskIn self.old.form (origin_of self.old.version self.old.session)
-            (place_of self.old.session) self.old.refused ask.entry (string_bytes text)
-            (place_of self.new.session)) }
+            (place_of self.old.session) (kept_of self.old) ask.entry (string_bytes text)
+            (place_of self.new.session) (kept_of self.new)) }
         ensures stops { OnErr result
             (StopsShort (place_of self.old.session) ask.entry (place_of self.new.session)) }
-        ensures others { self.new ≡ record self.old { session = self.new.session } }
+        ensures kept { OnErr result (kept_of self.new ≡ kept_of self.old) }
         ensures boot { SameBoot self.new.session self.old.session }
+        ensures form { self.new.form ≡ self.old.form }
+        ensures version { self.new.version ≡ self.old.version }
     {
-        let lets_go = ask.lets_go();
-        let answer = find_answer(alloc, &mut self.session, &self.refused, ask)?;
-        let text = say_answer(alloc, self.form, self.version, &self.session, &answer)?;
-        leave(&mut self.session, lets_go);
+        let answer = find_answer(alloc, &mut self.session, &self.refused, &ask)?;
+        let text = self.say(alloc, &answer)?;
+        keep_names(alloc, &mut self.given, &ask, self.session.position())?;
+        leave(&mut self.session, ask.lets_go());
         Ok(text)
     }
-}
 
-/// Keeps a step.
-#[inline(never)] // inlined, each step would fill its place
-fn keep_step(kept: &mut Option<Step>, step: &Step)
-    ensures { kept.new ≡ Some step.now }
-{
-    *kept = Some(step.copy());
+    /// An answer, printed with the names of processes at the position to which it led.
+    ///
+    /// NoMemory where a growth is refused.
+    fn say(&self, alloc: Global, answer: &Answer) -> Result<String, NoMemory>
+        requires { IsPlaced (position_of self.now.session) answer.now }
+        ensures { IfOk result (λ text. SaysAnswer self.now.form
+            (origin_of self.now.version self.now.session)
+            (names_at self.now.session.count (place_of self.now.session) (kept_of self.now).names)
+            (history_of (made_of self.now.session)) (place_of self.now.session) answer.now
+            (string_bytes text)) }
+    {
+        let names = Names {
+            session: &self.session,
+            given: self.given.as_slice(),
+        };
+        say_answer(alloc, self.form, self.version, &self.session, names, answer)
+    }
 }
 
 /// How many steps there are.

@@ -1,14 +1,15 @@
 //! What is asked about the state and about steps: which step changed a piece (`changes.rt`), what a
 //! step would do (`trials.rt`), how two positions differ (`comparing.rt`) and by which lines two states do
 //! (`differences.rt`), what live transactions have reserved (`owners.rt`), who has a pipe open
-//! (`held.rt`), and why a step would be refused (`reasons.rt`).
+//! (`held.rt`), why a step would be refused (`reasons.rt`), and what the child was refused last for which it
+//! waits (`attempts.rt`).
+pub mod attempts;
 pub mod blockers;
 pub mod changes;
 pub mod comparing;
 pub mod differences;
 pub mod held;
 pub mod holders;
-pub mod kinds;
 pub mod owners;
 pub mod reasons;
 pub mod signals;

@@ -10,6 +10,7 @@ ghost use Rattle.tx_shell.specs.Standings.{IsNoHeader, IsQuit, Stops, StopsMeant
 
 use crate::answers::Interpreter;
 use crate::answers::forms::{say_nothing, say_position};
+use crate::answers::refused::Refused;
 use crate::lines::meanings::meant_line;
 use crate::lines::openings::{Opening, read_opening};
 use crate::lines::versions::TextVersion;
@@ -40,6 +41,7 @@ impl Shell {
     pub fn new(alloc: Global, form: Form) -> Result<Shell, NoMemory>
         ensures { IfOk result (λ shell. standing_of shell ≡ first_standing form) }
     {
+        let refused = Refused::new(alloc)?;
         let mut session = Session::boot_wide(alloc, 2)?;
         reserve_ahead(&mut session);
         Ok(Shell {
@@ -47,7 +49,8 @@ impl Shell {
                 form,
                 version: TextVersion::Three,
                 session,
-                refused: None,
+                refused,
+                given: Vec::new(alloc),
             },
             is_fresh: true,
             step: Step::Call(Pid(0), Call::Getpid),
@@ -184,12 +187,14 @@ impl Shell {
         ensures begun { OnOk result (standing_of self.new ≡ begun_by self.old.interpreter.form (origin_said opening)) }
         ensures refused { OnErr result (self.new ≡ self.old) }
     {
+        let refused = Refused::new(alloc)?;
         let mut session = Session::boot_by(alloc, opening.header)?;
         reserve_ahead(&mut session);
         let text = say_position(alloc, self.interpreter.form, 0)?;
         self.interpreter.session = session;
         self.interpreter.version = opening.version;
-        self.interpreter.refused = None;
+        self.interpreter.refused = refused;
+        self.interpreter.given.clear();
         self.is_fresh = false;
         Ok(text)
     }

@@ -189,7 +189,7 @@ fn half_run(rt: &impl Eprint) -> ExitCode
 fn no_excerpt(rt: &impl Eprint) -> ExitCode
     ensures { exit_status result ≡ UNREAD }
 {
-    let _ = eprintln!(rt; "error: the step of --from must not be behind that of --to\n");
+    let _ = eprintln!(rt; "error: the step of --from must not be after that of --to\n");
     let _ = eprintln!(rt; "Usage: {PICTURE_USAGE}\n");
     let _ = eprintln!(rt; "For more information, try '--help'.");
     ExitCode::from(UNREAD)

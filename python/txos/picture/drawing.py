@@ -1,4 +1,4 @@
-"""The program's picture of steps, with the names of processes, and without the rows of some steps.
+"""The program's picture of steps, without the rows of some of them.
 
 The program draws a row of one height for each step, and the heads of the columns again after each
 40 rows. The rows before the first one that is shown it leaves out itself. What is in a hidden row
@@ -12,25 +12,25 @@ import copy
 import re
 import subprocess
 import textwrap
-from dataclasses import dataclass
-from typing import Dict, List, Sequence
+from collections import defaultdict
+from typing import Collection, Dict, List, Sequence
 from xml.etree import ElementTree
 
 from ..faults import Fault
 from ..kernel import find_program
-from ..recording import HEADER
+from ..recording import Recording
 
 MOST_STEPS = 4096  # that the program draws
 _SVG = "http://www.w3.org/2000/svg"
+_TITLE = f"{{{_SVG}}}title"
 _ROW, _START = 24, 52  # how high a row is; where lanes start, a row above the first one's middle
-_PAGE, _HEADS, _FIRST_HEADS = 40, 48, 28  # rows between heads, how high these are, and the first
+_PAGE, _HEADS = 40, 48  # rows between heads, and how high these are
+_FIRST_HEADS, _FIRST_NAMES = 28, 38  # where the numbers of the first heads are, and the names
+_CHILD = 14  # from a fork's row to the name of a child that is forked anew
 _LEGEND_GAP, _FOOT_ROOM = 32, 88  # from the last row to the legend, and to the end
 _LETTER, _MARGIN, _LEAST_WIDTH = 8, 16, 480  # how the program reckons the width
-_NAME_LETTERS = 7  # that have room between two columns
 _FOOT_GAP, _FOOT_LINE, _FOOT_LETTER = 8, 18, 6.7
-_STYLE = """.name{font-size:10px;text-anchor:middle;stroke:#fff;stroke-width:3;paint-order:stroke}
-.foot{font-size:11px;fill:#555}
-"""
+_STYLE = ".foot{font-size:11px;fill:#555}\n"
 _BOXES = ("committed", "aborted", "open")
 _STARTER = 9  # from a box's top to its number
 _OF_TRANSACTIONS = (*_BOXES, "refusal")
@@ -38,34 +38,23 @@ _LEGEND_BOXES = 292  # the room that they have in the legend
 _NOT_IN_XML = re.compile("[^\t\n\r\x20-\ud7ff\ue000-\ufffd\U00010000-\U0010ffff]")
 
 
-@dataclass(frozen=True)
-class Row:
-    """A step that is made, with the number and the text that its row shows; it may be hidden."""
+def draw(
+    part: Recording, numbers: Sequence[int], shown: Collection[int], foot: Sequence[str]
+) -> str:
+    """The picture of steps that have numbers, of which some are shown, as SVG.
 
-    number: int
-    text: str
-    is_hidden: bool = False
-
-
-@dataclass(frozen=True)
-class Name:
-    """A process at the head of its column: a short name, and what it is at length."""
-
-    short: str
-    whole: str
-
-
-def draw(rows: Sequence[Row], names: Dict[int, Name], title: str, foot: Sequence[str]) -> str:
-    """The picture as SVG; raises `Fault` where the program draws none."""
+    Raises `Fault` where the program draws none.
+    """
     ElementTree.register_namespace("", _SVG)
-    first = next((it for it, row in enumerate(rows) if not row.is_hidden), max(len(rows) - 1, 0))
-    drawn = _drawn([it.text for it in rows], first + 1)
-    picture = _Picture(ElementTree.fromstring(drawn), rows[first:])
+    are_hidden = [it not in shown for it in numbers]
+    first = are_hidden.index(False) if False in are_hidden else max(len(numbers) - 1, 0)
+    drawn = ElementTree.fromstring(_drawn(part, first + 1))
+    picture = _Picture(drawn, numbers[first:], are_hidden[first:])
     picture.crop()
-    picture.name_columns(names)
+    picture.add_commands(part)
     picture.repeat_heads()
     picture.fit_width()
-    picture.add_words(title, foot)
+    picture.add_words(part.command, foot)
     return picture.text()
 
 
@@ -74,12 +63,13 @@ def _height(row: int) -> int:
     return _START + _ROW * row + _HEADS * (max(row - 1, 0) // _PAGE)
 
 
-def _drawn(steps: Sequence[str], first: int) -> str:
+def _drawn(part: Recording, first: int) -> str:
     """The program's picture of steps from one on."""
-    schedule = "".join(f"{it}\n" for it in (HEADER, *steps))
+    # A comment may have more bytes than the program takes.
+    lines = [it for it in part.text().split("\n") if not it.startswith("#")]
     ran = subprocess.run(
         [find_program(), "picture", "--from", str(first)],
-        input=schedule.encode("utf-8"),
+        input="\n".join(lines).encode("utf-8", "surrogateescape"),
         capture_output=True,
         check=False,
     )
@@ -92,15 +82,17 @@ def _drawn(steps: Sequence[str], first: int) -> str:
 class _Picture:
     """A picture that is being changed."""
 
-    def __init__(self, root: ElementTree.Element, rows: Sequence[Row]) -> None:
+    def __init__(
+        self, root: ElementTree.Element, numbers: Sequence[int], are_hidden: Sequence[bool]
+    ) -> None:
         self._root = root
-        body, self._legend = root.findall(f"{{{_SVG}}}g")
-        self._body = body
-        self._rows = rows
-        self._heights = [_height(it) for it in range(len(rows) + 1)]
+        self._body, self._legend = root.findall(f"{{{_SVG}}}g")
+        self._numbers = numbers
+        self._are_hidden = are_hidden
+        self._heights = [_height(it) for it in range(len(numbers) + 1)]
         self._shown = [0]  # how many of so many rows are shown
-        for it in rows:
-            self._shown.append(self._shown[-1] + (not it.is_hidden))
+        for is_hidden in are_hidden:
+            self._shown.append(self._shown[-1] + (not is_hidden))
 
     def text(self) -> str:
         """The picture as SVG, in ASCII, so that it is the same in each encoding."""
@@ -110,14 +102,14 @@ class _Picture:
     # Rows.
 
     def crop(self) -> None:
-        """Takes the hidden rows out."""
-        elements = iter(list(self._body))
+        """Takes the hidden rows out, and of the heads, which are last, all but the first."""
+        heads = next(it for it, element in enumerate(self._body) if element.text == "process")
+        elements = iter(self._body[:heads])
+        self._body[heads:] = [it for it in self._body[heads:] if _number(it, "y") < _START]
         starters = iter([it for it in self._body if it.get("class") == "starter"])
         for it in elements:
             kind = it.get("class")
-            if kind == "head" or it.text == "process":
-                self._keep_first_head(it)
-            elif kind in _BOXES:
+            if kind in _BOXES:
                 self._shorten_box(it, next(starters))
             elif kind in ("lane", "held") and it.get("y1") != it.get("y2"):
                 self._shorten(it)
@@ -139,7 +131,7 @@ class _Picture:
         return min(range(len(self._heights)), key=lambda row: abs(self._heights[row] - y))
 
     def _is_hidden(self, row: int) -> bool:
-        return row > 0 and self._rows[row - 1].is_hidden
+        return row > 0 and self._are_hidden[row - 1]
 
     def _moved(self, y: float) -> float:
         """Where a height comes to lie; what is hidden above all that is shown is at the start."""
@@ -149,25 +141,22 @@ class _Picture:
             return _height(above) + _ROW // 2 if above else _START
         return _height(above) + y - self._heights[row]
 
-    def _keep_first_head(self, element: ElementTree.Element) -> None:
-        """Takes the heads out that are there again: of what is shown they may be elsewhere."""
-        if _number(element, "y") != _FIRST_HEADS:
-            self._body.remove(element)
-
     def _crop_row(self, element: ElementTree.Element) -> None:
         """Moves what lies in one row, or takes it out."""
         ys = [it for it in ("y", "cy", "y1", "y2") if it in element.attrib]
-        row = self._row_of(_number(element, ys[0]))
+        below = _CHILD if element.get("class") == "name" else 0
+        row = self._row_of(_number(element, ys[0]) - below)
         if self._is_hidden(row):
             self._body.remove(element)
             return
         for it in ys:
-            _set(element, it, self._moved(_number(element, it)))
+            _set(element, it, self._moved(_number(element, it) - below) + below)
+        title = element.find(_TITLE)  # of a text that the program cuts
         if row > 0 and element.get("class") == "number":
-            element.text = str(self._rows[row - 1].number)
-        elif row > 0 and element.get("class") in ("step", "left"):
-            answer = (element.text or "").rpartition(" : ")[2]
-            element.text = _clean(f"{self._rows[row - 1].text} : {answer}")
+            element.text = str(self._numbers[row - 1])
+        elif title is not None and element.get("class") in ("step", "left"):
+            element.text = title.text
+            element.remove(title)
 
     def _shorten(self, line: ElementTree.Element) -> None:
         """Shortens what goes down through rows; what would have no length goes."""
@@ -202,32 +191,39 @@ class _Picture:
 
     # Words, and the size.
 
-    def name_columns(self, names: Dict[int, Name]) -> None:
-        """Names the process of each column, below its number."""
-        for head in [it for it in self._body if it.get("class") == "head"]:
-            name = names.get(int(head.text or 0))
-            if name:
-                y = _number(head, "y") + 14
-                short = _cut(name.short, _NAME_LETTERS)
-                text = _add_text(self._body, short, "name", head.attrib["x"], y)
-                title = ElementTree.SubElement(text, f"{{{_SVG}}}title")
-                title.text, title.tail = _clean(name.whole), text.text
-                text.text = None
+    def add_commands(self, part: Recording) -> None:
+        """Gives each name a title, which has all commands that the number's processes are."""
+        commands: Dict[str, List[str]] = defaultdict(list)
+        for it in part.names:
+            commands[str(it.process)].append(_clean(it.command))
+        columns = {it.get("x"): it.text or "" for it in self._texts("head")}
+        for name in self._texts("name"):
+            title = name.find(_TITLE)
+            if title is None:
+                title = ElementTree.SubElement(name, _TITLE)
+                title.tail, name.text = name.text, None
+            title.text = "\n".join(dict.fromkeys(commands[columns[name.get("x")]]))
 
     def repeat_heads(self) -> None:
         """Puts the numbers and names of the processes again after each 40 rows that are shown."""
-        heads = [it for it in self._body if it.get("class") in ("head", "name")]
-        heads += [it for it in self._body if it.text == "process"]
+        numbers = [it for it in self._body if it.text == "process"] + self._texts("head")
+        names = sorted(self._texts("name"), key=lambda it: _number(it, "y"))
         for row in range(_PAGE + 1, self._shown[-1] + 1, _PAGE):
-            for it in heads:
-                again = copy.deepcopy(it)
-                _set(again, "y", _number(it, "y") + _height(row) - _height(1))
-                self._body.append(again)
+            below = _height(row) - _height(1)
+            last = {it.get("x"): it for it in names if _number(it, "y") < below}
+            for y, heads in ((_FIRST_HEADS, numbers), (_FIRST_NAMES, last.values())):
+                for it in heads:
+                    again = copy.deepcopy(it)
+                    _set(again, "y", y + below)
+                    self._body.append(again)
+
+    def _texts(self, kind: str) -> List[ElementTree.Element]:
+        return [it for it in self._body if it.get("class") == kind]
 
     def fit_width(self) -> None:
         """Gives the picture room for the steps that are shown, as they are spelled."""
-        texts = [it for it in self._body if it.get("class") == "step"]
-        is_wide = any(it.get("class") == "left" for it in self._body)
+        texts = self._texts("step")
+        is_wide = bool(self._texts("left"))
         left = _LETTER * max([len(it.text or "") for it in texts if is_wide], default=0)
         self._body.set("transform", f"translate({left},0)")
         ends = (left + _number(it, "x") + _LETTER * len(it.text or "") for it in texts)
@@ -240,13 +236,15 @@ class _Picture:
         letters = int((width - 2 * _MARGIN) / _FOOT_LETTER)
         lines = [line for it in foot for line in textwrap.wrap(_clean(it), letters)]
         for count, line in enumerate(lines):
-            y = height + _FOOT_GAP + _FOOT_LINE * count
-            _add_text(self._root, line, "foot", str(_MARGIN), y)
+            y = _spelled(height + _FOOT_GAP + _FOOT_LINE * count)
+            place = {"class": "foot", "x": str(_MARGIN), "y": y}
+            element = ElementTree.SubElement(self._root, f"{{{_SVG}}}text", place)
+            element.text, element.tail = line, "\n"
         self._set_size(width, height + _FOOT_GAP + _FOOT_LINE * len(lines))
         style = self._root.find(f"{{{_SVG}}}style")
         assert style is not None
         style.text = (style.text or "") + _STYLE
-        element = ElementTree.Element(f"{{{_SVG}}}title")
+        element = ElementTree.Element(_TITLE)
         element.text, element.tail = _clean(title), "\n"
         self._root.insert(0, element)
 
@@ -254,15 +252,6 @@ class _Picture:
         _set(self._root, "width", width)
         _set(self._root, "height", height)
         self._root.set("viewBox", f"0 0 {_spelled(width)} {_spelled(height)}")
-
-
-def _add_text(
-    inside: ElementTree.Element, text: str, kind: str, x: str, y: float
-) -> ElementTree.Element:
-    place = {"class": kind, "x": x, "y": _spelled(y)}
-    element = ElementTree.SubElement(inside, f"{{{_SVG}}}text", place)
-    element.text, element.tail = _clean(text), "\n"
-    return element
 
 
 def _clear_legend(legend: ElementTree.Element) -> None:
@@ -292,8 +281,3 @@ def _spelled(number: float) -> str:
 def _clean(text: str) -> str:
     """A text without what XML may not have."""
     return _NOT_IN_XML.sub("\ufffd", text)
-
-
-def _cut(text: str, most: int) -> str:
-    """A text, cut to so many letters."""
-    return text if len(text) <= most else text[: most - 1] + "\u2026"

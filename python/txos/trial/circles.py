@@ -6,7 +6,7 @@ from collections import deque
 from dataclasses import dataclass, field
 from typing import Deque, Dict, List, Optional, Sequence, Set
 
-from ..waits import OTHER_SIDE, holders_of
+from ..waits import OTHER_SIDE, Moment, holders_of
 from .lines import Line, Wait, Why
 from .lives import AT_END, NO_READER, Life, Turn
 from .schedule import Schedule
@@ -72,11 +72,11 @@ def _circle(start: Wait, links: Dict[Wait, List[Link]]) -> List[Link]:
 
 
 class _Finder:
-    """Finds what a wait is for in the state at the end of a trial."""
+    """Finds what a wait is for at the end of a trial."""
 
     def __init__(self, schedule: Schedule) -> None:
         self._schedule = schedule
-        self._state = schedule.kernel.state()
+        self._moment = Moment.of(schedule.kernel)
 
     def find(self, wait: Wait) -> Forever:
         """What a wait is for, and who is to end it."""
@@ -117,7 +117,7 @@ class _Finder:
         """Adds who is to give bytes or room to a pipe, or, where nobody is, to close it."""
         step = found.wait.turn.step
         pipe, side = self._schedule.objects.pipe(step), OTHER_SIDE[step.words[0]]
-        holders = holders_of(self._state, pipe, side)
+        holders = holders_of(self._moment, pipe, side)
         calls = [] if step.expected in (AT_END, NO_READER) else [side]
         for call in [*calls, None]:
             for holder in holders:

@@ -22,6 +22,9 @@ fn no_command<'a>(name: Word<'a>) -> Trouble<'a> {
     if name.bytes == b"kernel".as_slice() || read_pid(name.bytes).is_some() {
         return Trouble::of_line(name.column, LineTrouble::StepAmongCommands);
     }
+    if name.bytes == b"name".as_slice() {
+        return Trouble::of_word(name, WordTrouble::NoNames);
+    }
     if form_of(SESSION.as_slice(), name.bytes).is_some() {
         return Trouble::of_word(name, WordTrouble::SessionCommand);
     }

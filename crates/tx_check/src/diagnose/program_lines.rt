@@ -24,6 +24,9 @@ pub fn program_line_trouble<'a>(version: Version, line: &'a [u8]) -> Option<Trou
     if first.bytes == b"kernel".as_slice() || read_pid(first.bytes).is_some() {
         return Some(Trouble::of_line(first.column, LineTrouble::StepInProgram));
     }
+    if first.bytes == b"name".as_slice() {
+        return Some(Trouble::of_word(first, WordTrouble::NoNames));
+    }
     if count_words(line) == 1 && first.bytes.ends_with(b":") {
         return Some(Trouble::of_word(first, WordTrouble::LabelColon));
     }

@@ -37,6 +37,9 @@ fn no_process<'a>(first: Word<'a>, version: Version, line: &'a [u8]) -> Trouble<
     if form_of(COMMANDS.as_slice(), first.bytes).is_some() {
         return Trouble::of_line(first.column, LineTrouble::CommandTooSoon);
     }
+    if first.bytes == b"name".as_slice() {
+        return Trouble::of_word(first, WordTrouble::NoNames);
+    }
     if let Some(trouble) = call_alone(first, version, line) {
         return trouble;
     }

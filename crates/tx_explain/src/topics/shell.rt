@@ -43,6 +43,7 @@ when PIECE goes back to the step that changed a piece of the state last
 next PIECE goes on to the step that changes it next
 PIECE is   proc P, page P N, fd P F, ids P, pending P, queue P, desc D, pipe Q,
            or txn S
+name P N   gives process P the name N, which is shown after its number
 cut        lets go of the steps after the position
 help WORD  says what a word of a step, a reply or a state means, as help N8
 ?          prints this list, as help does

@@ -14,7 +14,7 @@ pub fn topics() -> &'static [Topic]
     &TOPICS
 }
 
-const TOPICS: [Topic; 9] = [
+const TOPICS: [Topic; 10] = [
     Topic {
         word: "txos",
         also: &[],
@@ -36,6 +36,20 @@ comment: in a text of version 3, # and what follows it in its line.
   example  2 map 0   # the first page
   A line without a word is left out. Spaces and tabs part words, any number of
   them, and a line may end with CR LF, or where the text ends.
+",
+    },
+    Topic {
+        word: "name",
+        also: &["names"],
+        text: "\
+name: gives a process a name, in a schedule of version 3 and in the shell.
+  form     name P NAME
+  NAME     1 to 16 letters, digits, ., _, + or -
+  answers  at K in the shell, where a cut lets go of it once it is ahead
+  example  name 2 sh
+           at 3
+  It makes no step. The shell shows it behind P in what why, owns, holds, when
+  and next answer, until P is forked anew: that process has none.
 ",
     },
     Topic {

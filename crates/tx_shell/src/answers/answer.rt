@@ -2,17 +2,17 @@
 ghost use Rattle.std.specs.Prelude.{◌≡◌, IfOk};
 ghost use Rattle.tx_journal.specs.Entries.{history_of};
 ghost use Rattle.tx_journal.specs.Sessions.{made_of, position_of, start_of, IsBetween, SameJournal};
-ghost use Rattle.tx_journal.specs.Trials.{answer_there};
 ghost use Rattle.tx_script.specs.Debug.{position_after};
-ghost use Rattle.tx_shell.specs.Answers.{last_why, IsAnswer, StopsShort, Walks};
+ghost use Rattle.tx_shell.specs.Answers.{last_why, why, IsAnswer, StopsShort, Walks};
 ghost use Rattle.tx_shell.specs.Places.{place_of};
-ghost use Rattle.tx_shell.specs.Forms.{IsPlaced};
-ghost use Rattle.tx_shell.specs.declared.answers.answer.Answer.TheVariants as answers;
+ghost use Rattle.tx_shell.specs.Forms.{shows_names, IsPlaced};
 
 use crate::answers::count_steps;
 use crate::answers::helps::meaning;
+use crate::answers::refused::Refused;
 use crate::answers::reserving::reserve_walk;
 use crate::lines::asks::Ask;
+use crate::questions::attempts::{Attempt, child_attempt};
 use crate::questions::changes::{Change, find_last, find_next};
 use crate::questions::comparing::compare;
 use crate::questions::held::{DescHolders, PipeHolders, desc_holders, pipe_holders};
@@ -46,8 +46,8 @@ pub enum Answer {
     Without(u16, Option<String>),
     /// How the step directly before the position changed a piece. Nothing where no step does.
     Change(Option<Change>),
-    /// Why a step would get this reply.
-    Why(Step, Reply),
+    /// Why a step would get this reply, and what the child for which it waits was refused last.
+    Why(Step, Reply, Option<Attempt>),
     /// That no step was refused.
     NothingRefused,
     /// What each live transaction has reserved.
@@ -62,6 +62,31 @@ pub enum Answer {
     Page(&'static str),
 }
 
+impl Answer {
+    /// Whether it shows the names of processes.
+    pub fn shows_names(&self) -> bool
+        ensures { result ≡ shows_names self.now }
+    {
+        match self {
+            Answer::Change(_)
+            | Answer::Why(..)
+            | Answer::NothingRefused
+            | Answer::Owners
+            | Answer::OwnersOf(_)
+            | Answer::PipeHolders(_)
+            | Answer::DescHolders(_) => true,
+            Answer::Walked(_)
+            | Answer::Position
+            | Answer::Steps(..)
+            | Answer::Schedule
+            | Answer::Trial(..)
+            | Answer::Diff(..)
+            | Answer::Without(..)
+            | Answer::Page(_) => false,
+        }
+    }
+}
+
 /// Goes where what is asked for leads, and gives its answer. A cut lets go of no step yet.
 ///
 /// NoMemory where a growth is refused: no step came or went then, and the position lies between the
@@ -69,48 +94,52 @@ pub enum Answer {
 pub fn find_answer(
     alloc: Global,
     session: &mut Session,
-    refused: &Option<Step>,
-    ask: Ask<'_>,
+    refused: &Refused,
+    ask: &Ask<'_>,
 ) -> Result<Answer, NoMemory>
     ensures answer { IfOk result (λ answer. IsAnswer (start_of session.old)
-        (history_of (made_of session.old)) (place_of session.old) refused.now ask.entry answer
+        (history_of (made_of session.old)) refused.now.own (place_of session.old) refused.now.last
+        ask.now answer
         (place_of session.new)) }
     ensures placed { IfOk result (λ answer. IsPlaced (position_of session.new) answer) }
-    ensures between { StopsShort (place_of session.old) ask.entry (place_of session.new) }
+    ensures between { StopsShort (place_of session.old) ask.now (place_of session.new) }
     ensures journal { SameJournal session.new session.old }
 {
     let last = count_steps(session) as u64;
     match ask {
-        Ask::Walk(command) => walk(alloc, session, command),
+        Ask::Walk(command) => walk(alloc, session, *command),
         Ask::GotoEnd => walk(alloc, session, Command::Goto(last)),
         Ask::Steps => Ok(Answer::Steps(1, last)),
-        Ask::StepsFrom(first) => Ok(Answer::Steps(first, last)),
-        Ask::StepsBetween(first, last) => Ok(Answer::Steps(first, last)),
+        Ask::StepsFrom(first) => Ok(Answer::Steps(*first, last)),
+        Ask::StepsBetween(first, last) => Ok(Answer::Steps(*first, *last)),
         Ask::Text => Ok(Answer::Schedule),
         Ask::Try(step) => {
-            let (reply, differences) = try_at(alloc, session, &step)?;
+            let (reply, differences) = try_at(alloc, session, step)?;
             Ok(Answer::Trial(reply, differences))
         }
-        Ask::When(piece) => Ok(Answer::Change(find_last(alloc, session, piece)?)),
-        Ask::Next(piece) => Ok(Answer::Change(find_next(alloc, session, piece)?)),
+        Ask::When(piece) => Ok(Answer::Change(find_last(alloc, session, *piece)?)),
+        Ask::Next(piece) => Ok(Answer::Change(find_next(alloc, session, *piece)?)),
         Ask::Diff(from, to) => {
-            let lines = compare(alloc, session, from as usize, to as usize)?;
-            Ok(Answer::Diff(from, to, lines))
+            let lines = compare(alloc, session, *from as usize, *to as usize)?;
+            Ok(Answer::Diff(*from, *to, lines))
         }
-        Ask::Without(starter) => { Ok(Answer::Without(starter, without(alloc, session, starter)?)) }
-        Ask::Why(step) => why(alloc, session, step),
+        Ask::Without(starter) => {
+            let lines = without(alloc, session, *starter)?;
+            Ok(Answer::Without(*starter, lines))
+        }
+        Ask::Why(step) => why(alloc, session, refused, step),
         Ask::WhyRefused => why_refused(alloc, session, refused),
         Ask::Owns => Ok(Answer::Owners),
-        Ask::OwnsOf(starter) => Ok(Answer::OwnersOf(starter)),
+        Ask::OwnsOf(starter) => Ok(Answer::OwnersOf(*starter)),
         Ask::HoldsPipe(number) => {
-            let found = pipe_holders(alloc, session, number)?;
+            let found = pipe_holders(alloc, session, *number)?;
             Ok(Answer::PipeHolders(found))
         }
         Ask::HoldsDesc(number) => {
-            let found = desc_holders(alloc, session, number)?;
+            let found = desc_holders(alloc, session, *number)?;
             Ok(Answer::DescHolders(found))
         }
-        Ask::Cut => Ok(Answer::Position),
+        Ask::Name(..) | Ask::Cut => Ok(Answer::Position),
         Ask::Help => Ok(Answer::Page(session_page())),
         Ask::HelpOn(word) => Ok(Answer::Page(meaning(word))),
     }
@@ -130,27 +159,29 @@ fn walk(alloc: Global, session: &mut Session, command: Command) -> Result<Answer
 }
 
 /// Why a step would be refused at the position, or what it would be answered.
-fn why(alloc: Global, session: &mut Session, step: Step) -> Result<Answer, NoMemory>
-    ensures answer { IfOk result (λ answer.
-        answer ≡ answers.Why step (answer_there session.old step)) }
+fn why(
+    alloc: Global,
+    session: &mut Session,
+    refused: &Refused,
+    step: &Step,
+) -> Result<Answer, NoMemory>
+    ensures answer { IfOk result (λ answer. answer ≡ why (start_of session.old)
+        (history_of (made_of session.old)) refused.now.own step.now) }
     ensures same { session.new ≡ session.old }
 {
-    let reply = session.reply_to(alloc, &step)?;
-    Ok(Answer::Why(step, reply))
+    let reply = session.reply_to(alloc, step)?;
+    let attempt = child_attempt(alloc, session, refused, step, &reply)?;
+    Ok(Answer::Why(step.copy(), reply, attempt))
 }
 
 /// Why the step would be refused at the position that was refused last, or that none was.
-fn why_refused(
-    alloc: Global,
-    session: &mut Session,
-    refused: &Option<Step>,
-) -> Result<Answer, NoMemory>
+fn why_refused(alloc: Global, session: &mut Session, refused: &Refused) -> Result<Answer, NoMemory>
     ensures answer { IfOk result (λ answer. answer ≡ last_why (start_of session.old)
-        (history_of (made_of session.old)) refused.now) }
+        (history_of (made_of session.old)) refused.now.own refused.now.last) }
     ensures same { session.new ≡ session.old }
 {
-    match refused {
-        Some(step) => why(alloc, session, step.copy()),
+    match &refused.last {
+        Some(step) => why(alloc, session, refused, step),
         None => Ok(Answer::NothingRefused),
     }
 }

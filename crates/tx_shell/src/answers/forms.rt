@@ -3,6 +3,7 @@ ghost use Rattle.std.specs.Prelude.{IfOk, OnOk, string_bytes};
 ghost use Rattle.tx_journal.specs.Entries.{history_of};
 ghost use Rattle.tx_journal.specs.Sessions.{made_of, position_of};
 ghost use Rattle.tx_shell.specs.Forms.{IsPlaced, SaysAhead, SaysAnswer, SaysNothing, SaysPosition, SaysReply};
+ghost use Rattle.tx_shell.specs.Names.{named};
 ghost use Rattle.tx_shell.specs.Places.{origin_of, place_of};
 
 use crate::answers::answer::Answer;
@@ -12,6 +13,7 @@ use crate::answers::helps::text_as;
 use crate::answers::journals::position_line;
 use crate::answers::steps::put_reply_line;
 use crate::lines::versions::TextVersion;
+use crate::names::Names;
 use std::alloc::Global;
 use tx_base::{NoMemory, Reply};
 use tx_journal::Session;
@@ -52,16 +54,17 @@ pub fn say_answer(
     form: Form,
     version: TextVersion,
     session: &Session,
+    names: Names<'_>,
     answer: &Answer,
 ) -> Result<String, NoMemory>
     requires { IsPlaced (position_of session.now) answer.now }
     ensures { IfOk result (λ text. SaysAnswer form (origin_of version session.now)
-        (history_of (made_of session.now)) (place_of session.now) answer.now
+        (named names.entry) (history_of (made_of session.now)) (place_of session.now) answer.now
         (string_bytes text)) }
 {
     match form {
-        Form::Text => answer_text(alloc, version, session, answer),
-        Form::Json => answer_line(alloc, version, session, answer),
+        Form::Text => answer_text(alloc, version, session, names, answer),
+        Form::Json => answer_line(alloc, version, session, names, answer),
     }
 }
 

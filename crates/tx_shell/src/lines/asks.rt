@@ -1,16 +1,20 @@
 //! What a talk is asked for by lines that are no steps.
-ghost use Rattle.std.specs.Prelude.{◌≡◌, ◌≢◌, ◌<◌, ◌^◌, ◌++◌, ◌∷◌, ℕ, List, MatchOption, IfSome, None, codes};
+ghost use Rattle.std.specs.Prelude.{◌≡◌, ◌≢◌, ◌<◌, ◌≤◌, ◌^◌, ◌++◌, ◌∷◌, ℕ, List, MatchOption, IfSome, None, codes, false, true};
 ghost use Rattle.std.specs.Fmt.{decimal};
 ghost use Rattle.tx_lines.specs.Schedule.{IsNoStep};
-ghost use Rattle.tx_lines.specs.declared.read.header.Version.{Version as TheVersion};
-ghost use Rattle.tx_shell.specs.Answers.{ask_text, lets_go, FitsAsk, IsNoAsk, IsOfNumbers, IsOfWords};
+ghost use Rattle.tx_plain.specs.Names.{is_name};
+ghost use Rattle.tx_shell.specs.Answers.{ask_text, lets_go, FitsAsk, IsNoAsk, IsOfName, IsOfNumbers, IsOfWords};
 ghost use Rattle.tx_shell.specs.Pieces.{IsNoPiece};
 ghost use Rattle.tx_shell.specs.declared.lines.asks.Ask.{Ask};
+ghost use Rattle.tx_shell.specs.declared.lines.versions.TextVersion.{TextVersion as TheVersion};
 
 use crate::lines::pieces::{byte_behind, read_piece};
+use crate::lines::versions::TextVersion;
+use std::str;
 use tx_base::{DescNo, Pid, PipeNo, Step};
 use tx_journal::Piece;
-use tx_lines::{Command, Version, read_command, read_pid, read_position, read_step, split_word};
+use tx_lines::{Command, read_command, read_pid, read_position, read_step, split_word};
+use tx_plain::is_name;
 
 /// What a talk is asked for by a line that is no step.
 #[derive(Drop)]
@@ -49,6 +53,9 @@ pub enum Ask<'a> {
     HoldsPipe(PipeNo),
     /// To tell who has this description open.
     HoldsDesc(DescNo),
+    /// To give a process, 1 to 256, a name: 1 to 16 letters, digits, `.`, `_`, `+` and `-`. Only in
+    /// version 3.
+    Name(Pid, &'a str),
     /// To let go of the steps after the position.
     Cut,
     /// To say what can be asked for.
@@ -67,12 +74,12 @@ impl Ask<'_> {
 }
 
 /// What a line asks for, in that version. Nothing where it is another line.
-pub fn read_ask(version: Version, line: &[u8]) -> Option<Ask<'_>>
+pub fn read_ask(version: TextVersion, line: &[u8]) -> Option<Ask<'_>>
     ensures found { IfSome result (λ ask. line.now ≡ ask_text ask) }
     ensures fits { IfSome result (FitsAsk version) }
     ensures none { result ≡ None → IsNoAsk version line.now }
 {
-    if let Some(command) = read_command(version, line) {
+    if let Some(command) = read_command(version.grammar(), line) {
         return Some(Ask::Walk(command));
     }
     if let Some(ask) = read_words(line) {
@@ -82,7 +89,7 @@ pub fn read_ask(version: Version, line: &[u8]) -> Option<Ask<'_>>
         return Some(ask);
     }
     if let Some(words) = behind(b"try ", line) {
-        return Some(Ask::Try(read_step(version, words)?));
+        return Some(Ask::Try(read_step(version.grammar(), words)?));
     }
     if let Some(words) = behind(b"when ", line) {
         return Some(Ask::When(read_piece(words)?));
@@ -91,7 +98,10 @@ pub fn read_ask(version: Version, line: &[u8]) -> Option<Ask<'_>>
         return Some(Ask::Next(read_piece(words)?));
     }
     if let Some(words) = behind(b"why ", line) {
-        return Some(Ask::Why(read_step(version, words)?));
+        return Some(Ask::Why(read_step(version.grammar(), words)?));
+    }
+    if let Some(words) = behind(b"name ", line) {
+        return read_name(version, words);
     }
     Some(Ask::HelpOn(behind(b"help ", line)?))
 }
@@ -159,6 +169,51 @@ fn read_numbered(line: &[u8]) -> Option<Ask<'static>>
     }
     let number = byte_behind(b"holds desc ", line)?;
     Some(Ask::HoldsDesc(DescNo(number)))
+}
+
+/// The name that words give to a process, its number first. Nothing where they give none, and in the
+/// first two versions.
+fn read_name(version: TextVersion, words: &[u8]) -> Option<Ask<'_>>
+    ensures found { IfSome result (λ ask. codes "name " ++ words.now ≡ ask_text ask) }
+    ensures fits { IfSome result (FitsAsk version) }
+    ensures none { result ≡ None → (ask : Ask) →
+        IsOfName ask → FitsAsk version ask → codes "name " ++ words.now ≢ ask_text ask }
+{
+    if !matches!(version, TextVersion::Three) {
+        return None;
+    }
+    let (number, name) = split_word(words)?;
+    let process = read_process(number)?;
+    let name = read_name_word(name)?;
+    Some(Ask::Name(process, name))
+}
+
+/// The process, 1 to 256, whose number a word spells.
+fn read_process(word: &[u8]) -> Option<Pid>
+    ensures found { IfSome result (λ process. word.now ≡ decimal process.0) }
+    ensures fits { IfSome result (λ process. (1 ≤ process.0) × (process.0 ≤ 256)) }
+    ensures none { result ≡ None → (process : ℕ) →
+        1 ≤ process → process ≤ 256 → word.now ≢ decimal process }
+{
+    let process = read_pid(word)?;
+    if process.0 < 1 || process.0 > 256 {
+        return None;
+    }
+    Some(process)
+}
+
+/// A word that may be a name.
+fn read_name_word(word: &[u8]) -> Option<&str>
+    ensures { MatchOption result (is_name word.now ≡ false)
+        (λ name. (name.now ≡ word.now) × (is_name word.now ≡ true)) }
+{
+    if !is_name(word) {
+        return None;
+    }
+    match str::from_utf8(word) {
+        Ok(name) => Some(name),
+        Err(_error) => unreachable!(),
+    }
 }
 
 /// Which steps are to be listed, by one number or two.

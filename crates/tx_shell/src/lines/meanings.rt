@@ -1,16 +1,17 @@
 //! What a line means.
-ghost use Rattle.std.specs.Prelude.{◌≡◌, [], IfOk, IfSome, MatchOption, option_map};
+ghost use Rattle.std.specs.Prelude.{◌≡◌, ◌≢◌, ◌++◌, [], ℕ, IfOk, IfSome, List, MatchOption, option_map};
 ghost use Rattle.tx_lines.specs.declared.read.header.TextKind.TheVariants.{Schedule};
 ghost use Rattle.tx_plain.specs.Lines.{plain_line};
+ghost use Rattle.tx_plain.specs.Names.{named};
 ghost use Rattle.tx_plain.specs.OwnLines.{without_return};
 ghost use Rattle.tx_plain.specs.declared.stage.Stage.TheVariants.{Within};
-ghost use Rattle.tx_shell.specs.Meanings.{after_word, asks_of_step, bytes_of, first_word, meant_line, spelled_line, third_line, usual_words, with_step};
+ghost use Rattle.tx_shell.specs.Meanings.{after_word, asks_of_step, bytes_of, first_word, meant_line, naming_words, own_line, spelled_line, third_line, usual_words, with_step};
 
 use crate::lines::versions::TextVersion;
 use std::alloc::Global;
 use tx_base::NoMemory;
 use tx_lines::{LINE_BYTES, take_line};
-use tx_plain::{Room, plain_line, split_word};
+use tx_plain::{Naming, Room, naming_in, plain_line, split_word};
 
 /// What a line means, as a line of version 1 or 2.
 #[derive(Drop)]
@@ -76,8 +77,8 @@ fn spelled_line<'a>(
     }
 }
 
-/// What a line of version 3 means: after `try` and `why` a step as a line of its own. Nothing where it
-/// has no word.
+/// What a line of version 3 means: after `try` and `why` a step as a line of its own, and itself where it
+/// gives a name to a process. Nothing where it has no word.
 fn third_words<'a>(
     alloc: Global,
     room: &'a mut Room,
@@ -91,7 +92,7 @@ fn third_words<'a>(
     {
         return Ok(Some(Words::Made(with_step(alloc, room, word, step)?)));
     }
-    Ok(plain_words(room, line))
+    plain_words(alloc, room, line)
 }
 
 /// The first word of a line, and what is left of the line after it. Nothing where there is no word.
@@ -125,10 +126,48 @@ fn with_step(alloc: Global, room: &mut Room, word: &[u8], step: &[u8]) -> Result
     Ok(words)
 }
 
-/// What a line of version 3 means. Nothing where it has no word.
-fn plain_words<'a>(room: &'a mut Room, line: &'a [u8]) -> Option<Words<'a>>
-    ensures { option_map bytes_of result
-        ≡ plain_line (Within Schedule) (without_return line.now) }
+/// What a line of version 3 means that does not ask about a step. Nothing where it has no word.
+fn plain_words<'a>(
+    alloc: Global,
+    room: &'a mut Room,
+    line: &'a [u8],
+) -> Result<Option<Words<'a>>, NoMemory>
+    ensures { IfOk result (λ meant.
+        option_map bytes_of meant ≡ own_line (without_return line.now)) }
 {
-    Some(Words::Lent(plain_line(room, line)?))
+    if let Some(plain) = plain_line(room, line) {
+        return Ok(Some(Words::Lent(plain)));
+    }
+    match naming_in(before_return(line)) {
+        Some(naming) => Ok(Some(Words::Made(naming_words(alloc, naming)?))),
+        None => Ok(None),
+    }
+}
+
+/// The words that give a name to a process, with a space between them.
+fn naming_words(alloc: Global, naming: Naming<'_>) -> Result<Vec<u8>, NoMemory>
+    ensures { IfOk result (λ words. words.items ≡ naming_words (named naming.entry)) }
+{
+    let front = format!(in alloc; "name {} ", naming.process.0)?;
+    let mut words = front.into_bytes();
+    words.extend_from_slice(naming.name)?;
+    Ok(words)
+}
+
+/// A line without the byte 13 at its end, where it has one.
+fn before_return(line: &[u8]) -> &[u8]
+    ensures { result.now ≡ without_return line.now }
+{
+    match before_end(b"\r", line) {
+        Some(front) => front,
+        None => line,
+    }
+}
+
+/// What stands before that end of a line. Nothing where the line does not end so.
+fn before_end<'a>(end: &[u8], line: &'a [u8]) -> Option<&'a [u8]>
+    ensures { MatchOption result ((front : List ℕ) → line.now ≢ front ++ end.now) (λ front.
+        line.now ≡ front.now ++ end.now) }
+{
+    line.strip_suffix(end)
 }

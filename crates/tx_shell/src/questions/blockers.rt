@@ -11,18 +11,20 @@ ghost use Rattle.tx_reserve.specs.Footprints.{IsSetOf};
 ghost use Rattle.tx_reserve.specs.Objects.{object_of};
 ghost use Rattle.tx_reserve.specs.Reservations.{number_of};
 ghost use Rattle.tx_shell.specs.Blockers.{blocked, blocked_at, blocked_in, blocked_of};
-ghost use Rattle.tx_shell.specs.Kinds.{limit_of};
+ghost use Rattle.tx_waits.specs.Kinds.{limit_of};
+ghost use Rattle.tx_shell.specs.Names.{named};
 ghost use Rattle.tx_shell.specs.Places.{view_at};
 ghost use Rattle.tx_shell.specs.Reasons.{blocked_line, since_text};
 ghost use Rattle.tx_text.specs.Each.{each_text};
 
-use crate::questions::kinds::Kind;
+use crate::names::{Behind, Names, put_step_made};
 use std::alloc::{AllocError, Global};
 use std::fmt::Write;
 use tx_base::{Pid, Step};
 use tx_journal::{Session, Touch};
-use tx_lines::{put, put_step};
+use tx_lines::put;
 use tx_reserve::{Object, Objects};
+use tx_waits::Kind;
 
 /// An object that a step names, and that a live transaction has reserved of which its process is no
 /// member.
@@ -104,41 +106,51 @@ fn add_object<'a>(
 }
 
 /// Appends the lines of objects in the way.
-pub fn put_objects(text: &mut String, blockers: &[Blocker<'_>]) -> Result<(), AllocError>
+pub fn put_objects(
+    text: &mut String,
+    names: Names<'_>,
+    blockers: &[Blocker<'_>],
+) -> Result<(), AllocError>
     ensures { OnOk result (string_bytes text.new ≡ string_bytes text.old
-        ++ each_text blocked_line (map blocked_of blockers.now)) }
+        ++ each_text (blocked_line (named names.entry)) (map blocked_of blockers.now)) }
 {
     for i in 0..blockers.len() {
-        put_object(text, blockers[i])?;
+        put_object(text, names, blockers[i])?;
     }
     Ok(())
 }
 
 /// Appends the line of an object in the way: whose it is, and since which step, where one is found.
-fn put_object(text: &mut String, blocker: Blocker<'_>) -> Result<(), AllocError>
+fn put_object(text: &mut String, names: Names<'_>, blocker: Blocker<'_>) -> Result<(), AllocError>
     ensures { OnOk result (string_bytes text.new
-        ≡ string_bytes text.old ++ blocked_line (blocked_of blocker.entry)) }
+        ≡ string_bytes text.old ++ blocked_line (named names.entry) (blocked_of blocker.entry)) }
 {
     write!(
         text,
-        "{}{}: the transaction of {} has it",
+        "{}{}{}: the transaction of {}{} has it",
         blocker.kind.word(),
         blocker.number,
-        blocker.owner.0
+        Behind(names.of_object(blocker.kind, blocker.number)),
+        blocker.owner.0,
+        Behind(names.of(blocker.owner.0))
     )?;
-    put_since(text, blocker.since)?;
+    put_since(text, names, blocker.since)?;
     put(text, "\n")
 }
 
 /// Appends since which step that is so, where one is found.
-fn put_since(text: &mut String, since: Option<Touch<'_>>) -> Result<(), AllocError>
+fn put_since(
+    text: &mut String,
+    names: Names<'_>,
+    since: Option<Touch<'_>>,
+) -> Result<(), AllocError>
     ensures { OnOk result (string_bytes text.new
-        ≡ string_bytes text.old ++ since_text (option_map numbered since.entry)) }
+        ≡ string_bytes text.old ++ since_text (named names.entry) (option_map numbered since.entry)) }
 {
     match since {
         Some(touch) => {
             write!(text, " since step {}: ", touch.number)?;
-            put_step(text, touch.step)
+            put_step_made(text, names, touch.step)
         }
         None => Ok(()),
     }

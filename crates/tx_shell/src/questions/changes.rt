@@ -4,14 +4,16 @@ ghost use Rattle.tx_journal.specs.Entries.{history_of};
 ghost use Rattle.tx_journal.specs.Sessions.{position_of, IsBetween, SameJournal};
 ghost use Rattle.tx_shell.specs.Changes.{AllShow, FindsLast, FindsNext, MeetsBack, MeetsNext};
 ghost use Rattle.tx_shell.specs.Changes.{shown_in, ShowsOthers, TellsFound};
+ghost use Rattle.tx_shell.specs.Names.{named};
 ghost use Rattle.tx_shell.specs.Places.{place_of};
 
 use crate::answers::reserving::reserve_walk;
+use crate::names::{Names, put_step_made};
 use crate::questions::differences::put_differing;
 use std::alloc::Global;
 use tx_base::NoMemory;
 use tx_journal::{Piece, Session, put_piece};
-use tx_lines::{Command, put, put_step};
+use tx_lines::{Command, put};
 
 /// How the step directly before the position changed a piece of the state.
 #[derive(Drop)]
@@ -77,12 +79,13 @@ pub fn find_next(
 pub fn tell_found(
     alloc: Global,
     session: &Session,
+    names: Names<'_>,
     found: &Option<Change>,
 ) -> Result<String, NoMemory>
     requires { IfSome found.now (λ change. 1 ≤ position_of session.now) }
     ensures { IfOk result (λ text.
-        TellsFound (history_of session.now.entries) (position_of session.now) found.now
-        (string_bytes text)) }
+        TellsFound (named names.entry) (history_of session.now.entries) (position_of session.now)
+        found.now (string_bytes text)) }
 {
     let position = session.position();
     let Some(change) = found else {
@@ -92,7 +95,7 @@ pub fn tell_found(
         unreachable!()
     };
     let mut text = format!(in alloc; "at {position}: ")?;
-    put_step(&mut text, &entry.step)?;
+    put_step_made(&mut text, names, &entry.step)?;
     put(&mut text, "\n")?;
     put_differing(&mut text, change.before.as_str(), change.after.as_str())?;
     Ok(text)

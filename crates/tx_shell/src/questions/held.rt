@@ -3,10 +3,12 @@ ghost use Rattle.std.specs.Prelude.{◌≡◌, ◌++◌, ◌∷◌, IfOk, OnOk, 
 ghost use Rattle.tx_desc.specs.Descriptions.{described};
 ghost use Rattle.tx_model.specs.View.{present};
 ghost use Rattle.tx_shell.specs.Held.{desc_held, desc_text, held_desc, held_pipe, named_text, pipe_held, pipe_text};
-ghost use Rattle.tx_shell.specs.Holders.{holders_by, is_sought};
+ghost use Rattle.tx_waits.specs.Holders.{holders_by, is_sought};
+ghost use Rattle.tx_shell.specs.Names.{named};
 ghost use Rattle.tx_shell.specs.Places.{view_at};
 
-use crate::questions::holders::{Sought, add_holders, put_holders, put_others, word};
+use crate::names::{Behind, Names};
+use crate::questions::holders::{put_holders, put_others, word};
 use std::alloc::{AllocError, Global};
 use std::fmt::Write;
 use tx_base::{DescNo, NoMemory, PipeNo};
@@ -14,6 +16,7 @@ use tx_desc::{Opened, Side};
 use tx_journal::Session;
 use tx_json::Holder;
 use tx_lines::put;
+use tx_waits::{Sought, add_holders};
 
 /// Who has the sides of a pipe open, by rising processes and descriptors.
 #[derive(Drop)]
@@ -93,22 +96,26 @@ fn holders_of(alloc: Global, session: &Session, sought: Sought) -> Result<Vec<Ho
         (present (view_at session.now))) }
 {
     let mut found = Vec::new(alloc);
-    add_holders(&mut found, session, sought)?;
+    add_holders(&mut found, session.machine(), sought)?;
     Ok(found)
 }
 
 /// The lines of who has a pipe open.
 ///
 /// NoMemory where a growth is refused.
-pub fn tell_pipe(alloc: Global, found: &Option<PipeHolders>) -> Result<String, NoMemory>
+pub fn tell_pipe(
+    alloc: Global,
+    names: Names<'_>,
+    found: &Option<PipeHolders>,
+) -> Result<String, NoMemory>
     ensures { IfOk result (λ text.
-        string_bytes text ≡ pipe_text (option_map pipe_held found.now)) }
+        string_bytes text ≡ pipe_text (named names.entry) (option_map pipe_held found.now)) }
 {
     let mut text = String::new(alloc);
     match found {
         Some(found) => {
-            put_holders(&mut text, Side::Read, found.readers.as_slice())?;
-            put_holders(&mut text, Side::Write, found.writers.as_slice())?;
+            put_holders(&mut text, names, Side::Read, found.readers.as_slice())?;
+            put_holders(&mut text, names, Side::Write, found.writers.as_slice())?;
         }
         None => put(&mut text, "no pipe\n")?,
     }
@@ -118,22 +125,26 @@ pub fn tell_pipe(alloc: Global, found: &Option<PipeHolders>) -> Result<String, N
 /// The line of who has a description open.
 ///
 /// NoMemory where a growth is refused.
-pub fn tell_desc(alloc: Global, found: &Option<DescHolders>) -> Result<String, NoMemory>
+pub fn tell_desc(
+    alloc: Global,
+    names: Names<'_>,
+    found: &Option<DescHolders>,
+) -> Result<String, NoMemory>
     ensures { IfOk result (λ text.
-        string_bytes text ≡ desc_text (option_map desc_held found.now)) }
+        string_bytes text ≡ desc_text (named names.entry) (option_map desc_held found.now)) }
 {
     let mut text = String::new(alloc);
     match found {
-        Some(found) => put_desc(&mut text, found)?,
+        Some(found) => put_desc(&mut text, names, found)?,
         None => put(&mut text, "no description\n")?,
     }
     Ok(text)
 }
 
 /// Appends which side of which pipe a description is, and who has it open.
-fn put_desc(text: &mut String, found: &DescHolders) -> Result<(), AllocError>
+fn put_desc(text: &mut String, names: Names<'_>, found: &DescHolders) -> Result<(), AllocError>
     ensures { OnOk result (string_bytes text.new
-        ≡ string_bytes text.old ++ desc_text (Some (desc_held found.now))) }
+        ≡ string_bytes text.old ++ desc_text (named names.entry) (Some (desc_held found.now))) }
 {
     write!(
         text,
@@ -141,30 +152,37 @@ fn put_desc(text: &mut String, found: &DescHolders) -> Result<(), AllocError>
         word(found.side),
         found.pipe.0
     )?;
-    put_named(text, found.holders.as_slice())?;
+    put_named(text, names, found.holders.as_slice())?;
     put(text, "\n")
 }
 
 /// Appends descriptors, or that there are none.
-fn put_named(text: &mut String, holders: &[Holder]) -> Result<(), AllocError>
+fn put_named(text: &mut String, names: Names<'_>, holders: &[Holder]) -> Result<(), AllocError>
     ensures { OnOk result
-        (string_bytes text.new ≡ string_bytes text.old ++ named_text holders.now) }
+        (string_bytes text.new ≡ string_bytes text.old ++ named_text (named names.entry) holders.now) }
 {
     match holders {
-        [first, others @ ..] => put_listed(text, *first, others),
+        [first, others @ ..] => put_listed(text, names, *first, others),
         [] => put(text, "nobody has it open"),
     }
 }
 
 /// Appends the first descriptor, and the others.
-fn put_listed(text: &mut String, first: Holder, others: &[Holder]) -> Result<(), AllocError>
+fn put_listed(
+    text: &mut String,
+    names: Names<'_>,
+    first: Holder,
+    others: &[Holder],
+) -> Result<(), AllocError>
     ensures { OnOk result (string_bytes text.new
-        ≡ string_bytes text.old ++ named_text (first ∷ others.now)) }
+        ≡ string_bytes text.old ++ named_text (named names.entry) (first ∷ others.now)) }
 {
     write!(
         text,
-        "descriptor {} of process {}",
-        first.descriptor, first.process
+        "descriptor {} of process {}{}",
+        first.descriptor,
+        first.process,
+        Behind(names.of(first.process))
     )?;
-    put_others(text, others)
+    put_others(text, names, others)
 }

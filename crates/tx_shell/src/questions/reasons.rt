@@ -4,19 +4,23 @@ ghost use Rattle.tx_base.specs.declared.steps.Reply.TheVariants.{No};
 ghost use Rattle.tx_journal.specs.Entries.{history_of};
 ghost use Rattle.tx_journal.specs.Sessions.{made_of, start_of};
 ghost use Rattle.tx_shell.specs.Blockers.{blocked_by, blocked_of};
-ghost use Rattle.tx_shell.specs.Reasons.{fact_lines, IsReason, TellsReason, TellsWhy};
+ghost use Rattle.tx_shell.specs.Names.{named};
+ghost use Rattle.tx_shell.specs.Reasons.{fact_lines, IsReason};
+ghost use Rattle.tx_shell.specs.Whys.{TellsReason, TellsWhy};
 
 use crate::answers::helps::meaning;
+use crate::names::{Names, put_step_made};
+use crate::questions::attempts::{Attempt, put_attempt};
 use crate::questions::blockers::{Blocker, blockers, put_objects};
-use crate::questions::holders::awaited_holders;
 use crate::questions::signals::put_signals;
 use crate::questions::waits::put_waited;
 use std::alloc::{AllocError, Global};
 use tx_base::{NoMemory, Refusal, Reply, Step};
 use tx_journal::Session;
 use tx_json::Holder;
-use tx_lines::{put, put_step, refusal_word};
+use tx_lines::{put, refusal_word};
 use tx_text::put_named_reply;
+use tx_waits::awaited_holders;
 
 /// What there is to tell of the reply that a step would get.
 #[derive(Drop)]
@@ -40,7 +44,7 @@ pub fn reason_of<'a>(
 {
     Ok(Reason {
         blockers: blockers_by(alloc, session, step, reply)?,
-        holders: awaited_holders(alloc, session, step, reply)?,
+        holders: awaited_holders(alloc, session.machine(), step, reply)?,
     })
 }
 
@@ -61,25 +65,27 @@ fn blockers_by<'a>(
     }
 }
 
-/// Why a step would get this reply at the position.
+/// Why a step would get this reply at the position, and what the child for which it waits was refused
+/// last.
 ///
 /// NoMemory where a growth is refused.
 pub fn tell_why(
     alloc: Global,
     session: &Session,
+    names: Names<'_>,
     step: &Step,
     reply: &Reply,
+    attempt: &Option<Attempt>,
 ) -> Result<String, NoMemory>
-    ensures { IfOk result (λ text. TellsWhy (start_of session.now) (history_of (made_of session.now))
-        step.now reply.now (string_bytes text)) }
+    ensures { IfOk result (λ text. TellsWhy (named names.entry) (start_of session.now)
+        (history_of (made_of session.now)) step.now attempt.now reply.now (string_bytes text)) }
 {
-    let reason = reason_of(alloc, session, step, reply)?;
     let mut text = String::new(alloc);
-    put_step(&mut text, step)?;
+    put_step_made(&mut text, names, step)?;
     put(&mut text, ": it would be answered ")?;
     put_named_reply(&mut text, reply)?;
     put(&mut text, "\n")?;
-    put_reason(&mut text, session, step, reply, &reason)?;
+    put_reason(&mut text, session, names, step, reply, attempt)?;
     Ok(text)
 }
 
@@ -87,20 +93,22 @@ pub fn tell_why(
 fn put_reason(
     text: &mut String,
     session: &Session,
+    names: Names<'_>,
     step: &Step,
     reply: &Reply,
-    reason: &Reason<'_>,
+    attempt: &Option<Attempt>,
 ) -> Result<(), AllocError>
-    requires { IsReason (start_of session.now) (history_of (made_of session.now)) step.now
-        reply.now reason.now }
     ensures { OnOk result ((told : List ℕ)
         × (string_bytes text.new ≡ string_bytes text.old ++ told)
-        × TellsReason (start_of session.now) (history_of (made_of session.now)) step.now reply.now
-        told) }
+        × TellsReason (named names.entry) (start_of session.now) (history_of (made_of session.now))
+        step.now attempt.now reply.now told) }
 {
     match reply {
         Reply::No(why) => {
-            put_facts(text, session, step, *why, reason)?;
+            let alloc = *text.allocator();
+            let reason = reason_of(alloc, session, step, reply)?;
+            put_facts(text, session, names, step, *why, &reason)?;
+            put_attempt(text, session, names, attempt)?;
             put(text, meaning(refusal_word(*why).as_bytes()))
         }
         Reply::Done(_)
@@ -113,9 +121,10 @@ fn put_reason(
 
 /// Appends the facts of a refusal: of a step in whose way a transaction is, the objects and the
 /// signals that have two answers; of one that waits, what for.
-fn put_facts(
+pub fn put_facts(
     text: &mut String,
     session: &Session,
+    names: Names<'_>,
     step: &Step,
     why: Refusal,
     reason: &Reason<'_>,
@@ -123,14 +132,15 @@ fn put_facts(
     requires { IsReason (start_of session.now) (history_of (made_of session.now)) step.now
         (No why) reason.now }
     ensures { OnOk result (string_bytes text.new ≡ string_bytes text.old
-        ++ fact_lines (start_of session.now) (history_of (made_of session.now)) step.now why) }
+        ++ fact_lines (named names.entry) (start_of session.now) (history_of (made_of session.now))
+        step.now why) }
 {
     match why {
         Refusal::Busy { .. } => {
-            put_objects(text, reason.blockers.as_slice())?;
-            put_signals(text, session, step)
+            put_objects(text, names, reason.blockers.as_slice())?;
+            put_signals(text, session, names, step)
         }
-        Refusal::Wait => put_waited(text, session, step, &reason.holders),
+        Refusal::Wait => put_waited(text, session, names, step, &reason.holders),
         _ => Ok(()),
     }
 }

@@ -2,11 +2,12 @@
 ghost use Rattle.std.specs.Prelude.{◌≡◌, ◌++◌, OnOk, string_bytes};
 ghost use Rattle.tx_journal.specs.Entries.{history_of};
 ghost use Rattle.tx_journal.specs.Sessions.{made_of, start_of};
+ghost use Rattle.tx_shell.specs.Names.{named};
 ghost use Rattle.tx_shell.specs.Places.{view_at};
 ghost use Rattle.tx_shell.specs.Reasons.{named_text, signal_line, signal_lines, twice_line};
 ghost use Rattle.tx_step.specs.TwoAnswers.{two_answers};
 
-use crate::questions::kinds::Kind;
+use crate::names::{Behind, Names};
 use std::alloc::AllocError;
 use std::fmt::Write;
 use tx_base::{Pid, Step};
@@ -14,18 +15,25 @@ use tx_journal::Session;
 use tx_lines::put;
 use tx_step::TwoAnswers;
 use tx_text::error_name;
+use tx_waits::Kind;
 
 /// Appends a line for each starter of another's live transaction at which a signal of the step has two
 /// answers, by rising starters: the first such signal, how it would be answered now, and how after an
 /// abort.
 ///
 /// NoMemory where a growth is refused; some of the lines may then stand behind the text.
-pub fn put_signals(text: &mut String, session: &Session, step: &Step) -> Result<(), AllocError>
+pub fn put_signals(
+    text: &mut String,
+    session: &Session,
+    names: Names<'_>,
+    step: &Step,
+) -> Result<(), AllocError>
     ensures { OnOk result (string_bytes text.new ≡ string_bytes text.old
-        ++ signal_lines (start_of session.now) (history_of (made_of session.now)) step.now) }
+        ++ signal_lines (named names.entry) (start_of session.now) (history_of (made_of session.now))
+        step.now) }
 {
     for number in 0..Kind::Processes.limit() {
-        put_signal(text, session, step, Pid(number))?;
+        put_signal(text, session, names, step, Pid(number))?;
     }
     Ok(())
 }
@@ -34,15 +42,16 @@ pub fn put_signals(text: &mut String, session: &Session, step: &Step) -> Result<
 fn put_signal(
     text: &mut String,
     session: &Session,
+    names: Names<'_>,
     step: &Step,
     starter: Pid,
 ) -> Result<(), AllocError>
     ensures { OnOk result (string_bytes text.new ≡ string_bytes text.old
-        ++ signal_line (start_of session.now) (history_of (made_of session.now)) step.now
-        starter.0) }
+        ++ signal_line (named names.entry) (start_of session.now) (history_of (made_of session.now))
+        step.now starter.0) }
 {
     match two_answers(session, step, starter) {
-        Some(answers) => put_twice(text, starter, answers),
+        Some(answers) => put_twice(text, names, starter, answers),
         None => Ok(()),
     }
 }
@@ -55,19 +64,29 @@ fn two_answers(session: &Session, step: &Step, starter: Pid) -> Option<TwoAnswer
 }
 
 /// Appends the line of a signal to a starter that has two answers.
-fn put_twice(text: &mut String, starter: Pid, answers: TwoAnswers) -> Result<(), AllocError>
-    ensures { OnOk result
-        (string_bytes text.new ≡ string_bytes text.old ++ twice_line starter.0 answers) }
+fn put_twice(
+    text: &mut String,
+    names: Names<'_>,
+    starter: Pid,
+    answers: TwoAnswers,
+) -> Result<(), AllocError>
+    ensures { OnOk result (string_bytes text.new
+        ≡ string_bytes text.old ++ twice_line (named names.entry) starter.0 answers) }
 {
+    let name = Behind(names.of(starter.0));
     write!(
         text,
-        "signal {} to {}: it would be answered ",
+        "signal {} to {}{name}: it would be answered ",
         answers.signo.0, starter.0
     )?;
     put_named(text, answers.present)?;
     put(text, " now, and ")?;
     put_named(text, answers.after_abort)?;
-    write!(text, " if the transaction of {} were aborted\n", starter.0)
+    write!(
+        text,
+        " if the transaction of {}{name} were aborted\n",
+        starter.0
+    )
 }
 
 /// Appends what is answered, with the name of an error.

@@ -3,6 +3,7 @@ use Rattle.std.proofs.lemmas.List.{length-take}
 use Rattle.tx_base.specs.declared.steps.Step.{Step}
 use Rattle.tx_picture.proofs.DrawnSteps.{rows_counted}
 use Rattle.tx_picture.proofs.PictureFormed.{picture_formed}
+use Rattle.tx_picture.specs.Captions.{captioned_as}
 use Rattle.tx_picture.specs.Drawings.{first_drawn}
 use Rattle.tx_picture.specs.Drawn.{drawn_as, Drawn}
 use Rattle.tx_picture.specs.WellFormed.{IsWellFormed}
@@ -34,4 +35,4 @@ picture_of-requires c =
     )
 
 pub returns-clause-formed : goal.returns-clause-formed
-returns-clause-formed c = subst IsWellFormed (sym c.in_ok-text.ensures) (picture_formed (drawn_as c.leave_out.new.drawing))
+returns-clause-formed c = subst IsWellFormed (sym c.in_ok-text.ensures) (picture_formed (captioned_as c.in_ok-captions.captions) (drawn_as c.leave_out.new.drawing))

@@ -1,11 +1,10 @@
 //! Tells as JSON what live transactions have reserved, and what would be without one.
 ghost use Rattle.std.specs.Prelude.{◌≡◌, ◌++◌, ◌<◌, OnOk};
 ghost use Rattle.tx_live.specs.Content.{view_of};
-ghost use Rattle.tx_shell.specs.Kinds.{limit_of};
+ghost use Rattle.tx_waits.specs.Kinds.{limit_of};
 ghost use Rattle.tx_shell.specs.Members.{listed_item, owned_member, owner_item, owner_member, owners_member};
 ghost use Rattle.tx_shell.specs.Owners.{owns_one};
 
-use crate::questions::kinds::Kind;
 use crate::questions::owners::is_live;
 use std::alloc::AllocError;
 use tx_base::Pid;
@@ -13,6 +12,7 @@ use tx_core::Machine;
 use tx_json::{
     LineWriter, begin_list, begin_object, end_list, end_object, put_count, put_count_item,
 };
+use tx_waits::Kind;
 
 /// Appends each live transaction, by rising starters.
 pub fn put_owners(writer: &mut LineWriter, machine: &Machine) -> Result<(), AllocError>

@@ -14,7 +14,7 @@ returns-then-means_one-clause-line c =
     let left = c.loop-bytes.left.now in
     let line = c.in-Some.bytes.now in
     let lines = own_lines c.in-Some.rest.now in
-    let some : is_some (plain_line stage line) ≡ true = c.means_one.ensures.some c.if-means_one.true stage in
+    let some : is_some (plain_line stage line) ≡ true = sym c.means_one.ensures ∙ c.if-means_one.true in
     let next = third_next stage left line lines c.in-Some.ensures.lines some in
     let same = c.loop-bytes.invariant.left in
     record {
@@ -29,7 +29,7 @@ returns-then-means_one-clause-own c = λ text number owns.
     let own = c.loop-bytes.number in
     let line = c.in-Some.bytes.now in
     let lines = own_lines c.in-Some.rest.now in
-    let some : is_some (plain_line stage line) ≡ true = c.means_one.ensures.some c.if-means_one.true stage in
+    let some : is_some (plain_line stage line) ≡ true = sym c.means_one.ensures ∙ c.if-means_one.true in
     let so_far = c.loop-bytes.invariant.own text number owns in
     let mean = subst (λ (ls : List (List ℕ)). MeanFrom text number stage own ls) c.in-Some.ensures.lines so_far.0 in
     let next = own_next text number stage own line lines mean some in

@@ -1,7 +1,7 @@
 use Rattle.std.proofs.Common.{map}
 use Rattle.tx_journal.specs.Entries.{history_of}
 use Rattle.tx_journal.specs.Sessions.{made_of, start_of}
-use Rattle.tx_shell.proofs.Gathered.{below_more, below_none}
+use Rattle.tx_waits.proofs.Gathered.{below_more, below_none}
 use Rattle.tx_shell.specs.Blockers.{blocked_at, blocked_of}
 use Rattle.tx_shell.proofs.questions.blockers.add_kind.Goals as goal
 

@@ -2,7 +2,7 @@ use Rattle.std.proofs.Common.{◌≡◌, ◌++◌, map}
 use Rattle.tx_journal.specs.Entries.{history_of}
 use Rattle.tx_journal.specs.Sessions.{made_of, start_of}
 use Rattle.tx_shell.specs.Blockers.{blocked_at, blocked_of}
-use Rattle.tx_shell.specs.Holders.{each_below}
+use Rattle.tx_waits.specs.Holders.{each_below}
 use Rattle.tx_shell.proofs.questions.blockers.add_kind.Given as goal
 
 abbrev pub invariant-loop-number : goal.invariant-loop-number

@@ -2,9 +2,9 @@ use Rattle.std.proofs.Common.{ℕ, List, Option, [], ◌∷◌, ◌++◌, ◌∙
 use Rattle.std.specs.Fmt.{decimal}
 use Rattle.tx_journal.specs.Entries.{accepted_of, entry_at, history_of}
 use Rattle.tx_journal.specs.Sessions.{position_of}
-use Rattle.tx_lines.specs.Lines.{step_text}
 use Rattle.tx_shell.proofs.Found.{step_made}
 use Rattle.tx_shell.specs.Changes.{TellsFound}
+use Rattle.tx_shell.specs.Names.{named, step_made_text}
 use Rattle.tx_shell.specs.Differences.{differing}
 use Rattle.tx_shell.specs.declared.questions.changes.Change.{Change}
 use Rattle.tx_shell.proofs.questions.changes.tell_found.Goals as goal
@@ -14,15 +14,15 @@ returns c =
     let entries = c.args.session.now.entries in
     let entry = c.in-Some-entry.entry.now in
     let number = position_of c.args.session.now in
-    let step : List ℕ = step_text entry.step in
+    let step : List ℕ = step_made_text (named c.args.names) entry.step in
     let told : List ℕ = differing (string_bytes c.in-Some.change.before) (string_bytes c.in-Some.change.after) in
     let front : ℕ → List ℕ = λ n. codes "at " ++ (decimal n ++ codes ": ") in
-    subst (λ (found : Option Change). TellsFound (history_of entries) number found (string_bytes c.put_differing.new.text)) (sym c.in-Some.is) (record {
+    subst (λ (found : Option Change). TellsFound (named c.args.names) (history_of entries) number found (string_bytes c.put_differing.new.text)) (sym c.in-Some.is) (record {
       entry = accepted_of entry;
       made = step_made entries number entry (c.in-Some-entry.ensures ∙ ap (entry_at entries) c.position-position.ensures.count);
       told = c.in_ok-put_differing.ensures
           ∙ (λ i. string_bytes c.put.new.text ++ differing (c.as_str.ensures.value i) (c.as_str-2.ensures.value i))
-          ∙ ap (λ (t : List ℕ). t ++ told) (c.in_ok-put.ensures ∙ ap (λ (t : List ℕ). t ++ 10 ∷ []) (c.in_ok-put_step.ensures ∙ ap (λ (t : List ℕ). t ++ step) (c.in_ok-text.ensures.ok ∙ ap front c.position-position.ensures.count)))
+          ∙ ap (λ (t : List ℕ). t ++ told) (c.in_ok-put.ensures ∙ ap (λ (t : List ℕ). t ++ 10 ∷ []) (c.in_ok-put_step_made.ensures ∙ ap (λ (t : List ℕ). t ++ step) (c.in_ok-text.ensures.ok ∙ ap front c.position-position.ensures.count)))
           ∙ append_assoc (front number ++ step) (10 ∷ []) told
           ∙ append_assoc (front number) step (10 ∷ told)
           ∙ ap (λ (t : List ℕ). codes "at " ++ t) (append_assoc (decimal number) (codes ": ") (step ++ 10 ∷ told));

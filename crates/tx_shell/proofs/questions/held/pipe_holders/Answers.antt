@@ -4,7 +4,7 @@ use Rattle.tx_json.specs.declared.holders.Holder.{Holder}
 use Rattle.tx_model.specs.State.{ReadSide, WriteSide}
 use Rattle.tx_model.specs.View.{present}
 use Rattle.tx_shell.specs.Held.{HeldPipe}
-use Rattle.tx_shell.specs.Holders.{holders}
+use Rattle.tx_waits.specs.Holders.{holders}
 use Rattle.tx_shell.specs.Places.{view_at}
 use Rattle.tx_shell.proofs.questions.held.pipe_holders.Goals as goal
 
