@@ -41,7 +41,7 @@ SENTENCES = {
     "sigreturn is a call": "no such call: a catching function returns",
     "memory is in pages": "XSH mmap(), munmap() and mprotect() act on ranges of addresses",
     # Answered otherwise by the host.
-    "EINVAL before ESRCH": "EINVAL is tested before ESRCH | left open",
+    "EINVAL before ESRCH": "EINVAL is tested before ESRCH (left open)",
     "an effective id that is there": "or it is the real or the saved id: the effective id becomes",
 }
 BITS = {
