@@ -232,50 +232,6 @@ impl Call {
             Call::SysXabort => Call::SysXabort,
         }
     }
-
-    /// Whether two calls are the same. The derived comparison says no less, but is not proved to of an
-    /// enum as large as this.
-    pub fn is_same(&self, other: &Call) -> bool
-        ensures { IsTrue result ↔ (self.now ≡ other.now) }
-    {
-        match (self, other) {
-            (Call::Map(a), Call::Map(b)) => a == b,
-            (Call::Unmap(a), Call::Unmap(b)) => a == b,
-            (Call::Load(a), Call::Load(b)) => a == b,
-            (Call::Fork(a), Call::Fork(b)) => a == b,
-            (Call::Exit(a), Call::Exit(b)) => a == b,
-            (Call::Setuid(a), Call::Setuid(b)) => a == b,
-            (Call::Seteuid(a), Call::Seteuid(b)) => a == b,
-            (Call::Setgid(a), Call::Setgid(b)) => a == b,
-            (Call::Setegid(a), Call::Setegid(b)) => a == b,
-            (Call::Dup(a), Call::Dup(b)) => a == b,
-            (Call::Close(a), Call::Close(b)) => a == b,
-            (Call::Keep(a), Call::Keep(b)) => a == b,
-            (Call::Getpid, Call::Getpid) => true,
-            (Call::Getppid, Call::Getppid) => true,
-            (Call::Sigpending, Call::Sigpending) => true,
-            (Call::Sigreturn, Call::Sigreturn) => true,
-            (Call::SysXbegin, Call::SysXbegin) => true,
-            (Call::SysXbeginDefer, Call::SysXbeginDefer) => true,
-            (Call::SysXend, Call::SysXend) => true,
-            (Call::SysXabort, Call::SysXabort) => true,
-            (Call::Protect(a, x), Call::Protect(b, y)) => a == b && x == y,
-            (Call::Store(a, x), Call::Store(b, y)) => a == b && x == y,
-            (Call::Waitpid(a, x), Call::Waitpid(b, y)) => a == b && x == y,
-            (Call::Dup2(a, x), Call::Dup2(b, y)) => a == b && x == y,
-            (Call::SetNonblock(a, x), Call::SetNonblock(b, y)) => a == b && x == y,
-            (Call::Kill(a, x), Call::Kill(b, y)) => a == b && x == y,
-            (Call::Sigaction(a, x), Call::Sigaction(b, y)) => a == b && x == y,
-            (Call::Sigprocmask(a, x), Call::Sigprocmask(b, y)) => a == b && x == y,
-            (Call::ConsoleWrite(a, x), Call::ConsoleWrite(b, y)) => a == b && x == y,
-            (Call::Jump(a, x), Call::Jump(b, y)) => a == b && x == y,
-            (Call::Pipe(a, x, u), Call::Pipe(b, y, v)) => a == b && x == y && u == v,
-            (Call::Read(a, x, u), Call::Read(b, y, v)) => a == b && x == y && u == v,
-            (Call::Write(a, x, u), Call::Write(b, y, v)) => a == b && x == y && u == v,
-            (Call::Sigqueue(a, x, u), Call::Sigqueue(b, y, v)) => a == b && x == y && u == v,
-            _ => false,
-        }
-    }
 }
 
 impl Step {
