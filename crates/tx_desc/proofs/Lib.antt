@@ -1,5 +1,6 @@
 pub mod Counting
 pub mod Totals
+pub mod Vacant
 pub mod Free
 pub mod PipeEnds
 pub mod CountedEnds

@@ -91,6 +91,9 @@ impl Descs {
     {
         table.sized();
         self.sized();
+        if !table.has_open() {
+            return ArrayVec::new(); // so it is with most processes that fork or end
+        }
         let mut left = self.counted(table);
         let mut plan = ArrayVec::new();
         for fd in 0..DESCRIPTORS {

@@ -1,7 +1,10 @@
 //! The descriptors of a process.
-ghost use Rattle.std.specs.Prelude.{◌≡◌, ◌<◌, ℕ, [], ◌∷◌, None, is_none, length, map, position, replicate, slice_index_or, slice_set};
+ghost use Rattle.std.specs.Prelude.{◌≡◌, ◌<◌, ℕ, [], ◌∷◌, None, is_none, is_some, length, map, position, replicate, slice_index_or, slice_set};
 ghost use Rattle.tx_model.specs.Descriptors.{description_named, descriptor, first_free};
 ghost use Rattle.tx_model.specs.State.{Process};
+ghost use Rattle.std.specs.Bool.{OnFalse};
+ghost use Rattle.std.specs.List.{list_any};
+ghost use Rattle.tx_desc.specs.Counts.{count_in};
 ghost use Rattle.tx_desc.specs.Places.{Finds, number_in, looked_up, two_free};
 ghost use Rattle.tx_desc.specs.Plans.{put_names};
 
@@ -105,6 +108,13 @@ impl FdTable {
         Some((first, second))
     }
 
+    /// Whether a descriptor is open.
+    pub(crate) fn has_open(&self) -> bool
+        ensures { OnFalse result ((d : ℕ) → count_in d self.now ≡ 0) }
+    {
+        has_some(&self.places)
+    }
+
     /// Exchanges what a descriptor names: 0 to 15. A second exchange takes the first one back. It
     /// counts no names. Own rule.
     pub fn swap(&mut self, fd: usize, name: &mut Option<DescNo>)
@@ -139,4 +149,11 @@ fn first_vacant(places: &[Option<DescNo>; DESCRIPTORS]) -> Option<usize>
     ensures { result ≡ position (λ x. is_none x) places.now }
 {
     places.iter().position(|place| place.is_none())
+}
+
+/// Whether a place has something.
+fn has_some(places: &[Option<DescNo>; DESCRIPTORS]) -> bool
+    ensures { result ≡ list_any (λ x. is_some x) places.now }
+{
+    places.iter().any(|place| place.is_some())
 }

@@ -1,8 +1,11 @@
-use Rattle.std.proofs.Common.{◌≡◌, if◌then◌else◌, nat_lt, ◌<◌, ◌∙◌, ◌+◌, ℕ, length, Some, None, take, get_or, sym, ap, subst, arith}
+use Rattle.std.proofs.Common.{List, ◌≡◌, if◌then◌else◌, nat_lt, ◌<◌, ◌∙◌, ◌+◌, ℕ, length, Some, None, take, get_or, sym, ap, subst, arith}
 use Rattle.arrayvec.specs.ArrayVec.{ArrayVec}
 use Rattle.std.proofs.lemmas.List.{take_all}
 use Rattle.tx_desc.specs.Places.{Descriptors}
 use Rattle.tx_desc.specs.Counts.{count_in}
+use Rattle.tx_desc.specs.Descriptions.{recounted}
+use Rattle.tx_desc.specs.Plans.{entries_of, put_descs}
+use Rattle.tx_desc.proofs.Vacant.{recounted_none}
 use Rattle.tx_desc.specs.declared.plans.NewDesc.{NewDesc}
 use Rattle.tx_desc.proofs.Whole.{Left, Planned, left_none, left_push, left_skip, left_some, named_some, planned_push, planned_skip, named_inside}
 use Rattle.tx_desc.proofs.descs.Descs.plan_all.Goals as goal
@@ -57,3 +60,12 @@ pub returns-clause-once : goal.returns-clause-once
 returns-clause-once c = λ d.
     let all : take c.loop-fd.fd c.args.table.now ≡ c.args.table.now = take_all c.loop-fd.fd c.args.table.now (omega arith) in
     c.loop-fd.invariant.planned.once d ∙ ap (λ (t : Descriptors). if nat_lt 0 (count_in d t) then 1 else 0) all
+
+pub returns-then-not-has_open-clause-after : goal.returns-then-not-has_open-clause-after
+returns-then-not-has_open-clause-after c = λ d.
+    ap (λ (l : List NewDesc). get_or (put_descs l c.args.self.now) d None) c.new.ensures
+    ∙ sym (ap (λ (n : ℕ). recounted c.args.names n (get_or c.args.self.now d None)) (rw c.if-not-has_open.true at c.has_open.ensures d) ∙ recounted_none c.args.names (get_or c.args.self.now d None))
+
+pub returns-then-not-has_open-clause-once : goal.returns-then-not-has_open-clause-once
+returns-then-not-has_open-clause-once c = λ d.
+    ap (λ (l : List NewDesc). entries_of d l) c.new.ensures ∙ sym (ap (λ (n : ℕ). if nat_lt 0 n then 1 else 0) (rw c.if-not-has_open.true at c.has_open.ensures d))
