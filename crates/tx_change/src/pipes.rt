@@ -1,7 +1,9 @@
 //! The pipes by number.
 ghost use Rattle.std.specs.Option.{option_copied};
-ghost use Rattle.std.specs.Prelude.{◌≡◌, ◌<◌, None, IfOk, length, replicate, option_map, slice_index_or, slice_set};
+ghost use Rattle.std.specs.Bool.{OnFalse, OnTrue};
+ghost use Rattle.std.specs.Prelude.{◌≡◌, ◌↔◌, ◌<◌, ◌≤◌, ◌+◌, ◌++◌, None, IfOk, IsTrue, length, replicate, option_map, slice_index_or, slice_set};
 ghost use Rattle.tx_change.specs.Pipes.{piped, piped_in, part_of, part_in};
+ghost use Rattle.tx_base.specs.declared.limits.TheConstants.{PIPE_BYTES};
 
 use std::alloc::Global;
 use std::marker::Model;
@@ -32,6 +34,15 @@ impl BoxedPipe {
     {
         let pipe = Box::new(alloc, pipe)?;
         Ok(BoxedPipe { pipe })
+    }
+
+    /// Appends all the bytes, or none of them, and says which, as `Pipe::write`.
+    pub fn write(&mut self, bytes: &[u8]) -> bool
+        ensures fits { IsTrue result ↔ (length self.old + length bytes.now ≤ PIPE_BYTES) }
+        ensures appended { OnTrue result (self.new ≡ self.old ++ bytes.now) }
+        ensures unchanged { OnFalse result (self.new ≡ self.old) }
+    {
+        self.pipe.write(bytes)
     }
 
     /// The pipe.

@@ -1,9 +1,9 @@
 -- The plans of reads and writes.
-use Rattle.std.proofs.Common.{map, take, drop, ◌≡◌, ℕ, zero, suc, ◌+◌, ◌<◌, ◌≤◌, true, List, [], ◌∷◌, ◌++◌, length, ℤ, pos, Option, Some, None, Ok, IsSome, refl, ap, sym, subst, ◌∙◌, inl, inr, arith}
+use Rattle.std.proofs.Common.{map, take, drop, ◌≡◌, ℕ, zero, suc, ◌+◌, ◌/◌, ◌<◌, ◌≤◌, Bool, true, false, if◌then◌else◌, ◌==◌, nat_lt, List, [], ◌∷◌, ◌++◌, length, ℤ, pos, Option, Some, None, Ok, IsSome, refl, ap, sym, subst, ◌∙◌, inl, inr, arith}
 use Rattle.tx_kernel.specs.Own.{page_change}
 use Rattle.tx_kernel.proofs.Owned.{AreOf-append, nameless-append, revised-append, pages_own, pages_nameless, pages_revised}
 use Rattle.tx_change.specs.Laws.{revised_by}
-use Rattle.std.proofs.lemmas.Bool.{cases_lt}
+use Rattle.std.proofs.lemmas.Bool.{cases_lt, eqb-true, ltb-true}
 use Rattle.std.proofs.lemmas.List.{get_or_past}
 use Rattle.tx_base.specs.declared.errors.Errno.TheVariants.{BrokenPipe}
 use Rattle.tx_base.specs.declared.names.PipeNo.{PipeNo}
@@ -42,7 +42,7 @@ use Rattle.tx_kernel.specs.declared.planned.Outcome.TheVariants.{Done}
 use Rattle.tx_model.specs.Descriptors.{desc_objects, desc_pipe_objects, descriptor, option_list, description_named, pipes_of}
 use Rattle.tx_model.specs.Words.{pipe_list, before_sends}
 use Rattle.tx_model.specs.Effects.{Effect, with_answer}
-use Rattle.tx_model.specs.Memory.{stored_memory, Memory, address_of, bytes_at, bytes_from}
+use Rattle.tx_model.specs.Memory.{Memory, PageView, address_of, all_good, bytes_at, bytes_from, is_good, page_at, stored_memory}
 use Rattle.tx_model.specs.Numbers.{error_answer}
 use Rattle.tx_model.specs.State.{Process, Sending, State, SetPipe, has_object, put_at, with_writes}
 use Rattle.tx_model.specs.State as model
@@ -81,6 +81,26 @@ keeps_same : (actor : Actor) → KeepsCounts actor.proc.now.descriptors actor.pr
 keeps_same actor = record { each = λ d others names. names }
 
 -- write
+
+-- bytes that are good are in 0 to 1,023
+all_inside : (test : Option PageView → Bool) (memory : Memory) (start n : ℕ) → start ≤ 1024 → all_good test memory start n ≡ true → start + n ≤ 1024
+all_inside test memory start zero low good = omega arith
+all_inside test memory start (suc n) low good = by (all_inside test memory (start + 1) n) (nat_lt start 1024) refl (test (page_at memory (start / 64))) good
+  where
+    by : (start + 1 ≤ 1024 → all_good test memory (start + 1) n ≡ true → start + 1 + n ≤ 1024) → (b : Bool) → nat_lt start 1024 ≡ b → (t : Bool) → (if b then (if t then all_good test memory (start + 1) n else false) else false) ≡ true → start + suc n ≤ 1024
+    by next true below true rest =
+        let inside : start < 1024 = ltb-true start 1024 below in
+        let more = next (omega (arith, inside)) rest in omega (arith, more)
+    by next true below false rest = let never : ⊥ = cc in absurd never
+    by next false past t rest = let never : ⊥ = cc in absurd never
+
+pub good_inside : (test : Option PageView → Bool) (memory : Memory) (address : ℤ) (start n : ℕ) → address_of address ≡ Some start → start ≤ 1024 →
+    is_good test memory address n ≡ true → start + n ≤ 1024
+good_inside test memory address start n is low good = by (n == 0) refl (rw is at good)
+  where
+    by : (b : Bool) → (n == 0) ≡ b → (if b then true else all_good test memory start n) ≡ true → start + n ≤ 1024
+    by true none all = let no : n ≡ 0 = eqb-true n 0 none in omega (arith, no, low)
+    by false some all = all_inside test memory start n low all
 
 few_bytes : (memory : Memory) (address : Option ℕ) (n : ℕ) → length (bytes_at memory address n) ≤ n
 few_bytes memory None n = omega arith

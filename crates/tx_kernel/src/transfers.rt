@@ -12,7 +12,7 @@ ghost use Rattle.tx_kernel.specs.Plans.{Plans, RefusedBy, Extends};
 ghost use Rattle.tx_kernel.specs.Sends.{IsSentBy};
 ghost use Rattle.tx_model.specs.Book.{desc_and_pipe_of, end_at as end_in, read, write, is_read_side, is_write_side};
 ghost use Rattle.tx_model.specs.Descriptors.{descriptor, description_named};
-ghost use Rattle.tx_model.specs.Memory.{address_of, bytes_at, is_good, is_mapped};
+ghost use Rattle.tx_model.specs.Memory.{address_of, bytes_at, bytes_from, is_good, is_mapped};
 ghost use Rattle.tx_model.specs.Numbers.{error_answer};
 ghost use Rattle.tx_model.specs.State.{Sending as TheSending};
 ghost use Rattle.tx_proc.specs.declared.proc.Part.TheVariants.{Answer as SetAnswer};
@@ -22,7 +22,9 @@ use crate::answers::failing;
 use crate::laws::laws;
 use crate::planned::{Outcome, Planned, Sends};
 use std::alloc::Global;
-use tx_base::{Errno, NoMemory, PIPE_BYTES, PipeNo, Refusal, SIGPIPE, Sending, number_below};
+use tx_base::{
+    ADDRESSES, Errno, NoMemory, PIPE_BYTES, PipeNo, Refusal, SIGPIPE, Sending, number_below,
+};
 use tx_change::{BoxedPipe, Change, Log, PipePart};
 use tx_desc::{Desc, Side};
 use tx_pages::Access;
@@ -290,11 +292,26 @@ impl Actor<'_> {
         requires few { n ≤ 512 }
         ensures { IfOk result (λ boxed. boxed ≡ put_bytes self.now address n) }
     {
-        let mut bytes = [0; PIPE_BYTES];
-        let _good = self.proc.space.take(address, &mut bytes[..n]);
-        let mut pipe = Pipe::new();
-        let _fits = pipe.write(&bytes[..n]);
-        BoxedPipe::new(alloc, pipe)
+        let mut boxed = BoxedPipe::new(alloc, Pipe::new())?;
+        if let Some(start) = number_below(ADDRESSES, address) {
+            self.put_into(start, n, &mut boxed);
+        }
+        Ok(boxed)
+    }
+
+    /// Appends so many bytes of the memory, from an address on, to a pipe. They must be in 0 to 1,023,
+    /// and fit.
+    fn put_into(&self, start: usize, n: usize, boxed: &mut BoxedPipe)
+        requires inside { start + n ≤ 1024 }
+        requires fits { length boxed.old + n ≤ 512 }
+        ensures { boxed.new ≡ boxed.old ++ bytes_from (me_of self.now).memory start n }
+    {
+        let mut done = 0;
+        while done < n {
+            let part = self.proc.space.part(start + done, n - done);
+            let _fits = boxed.write(part);
+            done += part.len();
+        }
     }
 
     /// What a write comes to.

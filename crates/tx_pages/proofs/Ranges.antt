@@ -84,6 +84,20 @@ bytes_from_append memory address (suc n) k =
     let one : suc n + k ≡ suc (n + k) = omega arith in
     rw one (ap (λ bytes. byte_or_zero (loaded_byte memory (Some address)) ∷ bytes) (bytes_from_append memory (address + 1) n k ∙ ap (λ a. bytes_from memory (address + 1) n ++ bytes_from memory a k) next))
 
+length_bytes_from : (memory : Memory) (address n : ℕ) → length (bytes_from memory address n) ≡ n
+length_bytes_from memory address zero = refl
+length_bytes_from memory address (suc n) = ap suc (length_bytes_from memory (address + 1) n)
+
+-- bytes of a range are as many as it has
+pub bytes_from_all : (memory : Memory) (address n : ℕ) (bytes : List ℕ) → bytes ≡ bytes_from memory address n → bytes ≡ bytes_from memory address (length bytes)
+bytes_from_all memory address n bytes same = same ∙ ap (bytes_from memory address) (sym (ap length same ∙ length_bytes_from memory address n))
+
+-- such bytes, and those after them
+pub bytes_from_rest : (memory : Memory) (address : ℕ) (bytes : List ℕ) → bytes ≡ bytes_from memory address (length bytes) → (n : ℕ) →
+    bytes_from memory address (length bytes + n) ≡ bytes ++ bytes_from memory (address + length bytes) n
+bytes_from_rest memory address bytes same n =
+    bytes_from_append memory address (length bytes) n ∙ ap (λ (front : List ℕ). front ++ bytes_from memory (address + length bytes) n) (sym same)
+
 -- bytes written over others at once
 pub overlaid_is : (old : List ℕ) (offset : ℕ) (bytes : List ℕ) → offset + length bytes ≤ length old →
     overlaid old offset bytes ≡ take offset old ++ bytes ++ drop (offset + length bytes) old

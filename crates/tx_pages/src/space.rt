@@ -1,7 +1,7 @@
 //! The pages of a process, by their numbers.
 ghost use Rattle.std.specs.Bool.{OnTrue};
 ghost use Rattle.std.specs.Option.{option_copied};
-ghost use Rattle.std.specs.Prelude.{◌≡◌, ◌≢◌, ◌<◌, ◌≤◌, ◌+◌, ◌/◌, ◌%◌, IfOk, IfErr, IfSome, OnErr, is_some, length, slice_set};
+ghost use Rattle.std.specs.Prelude.{◌≡◌, ◌≢◌, ◌<◌, ◌≤◌, ℕ, ◌+◌, ◌++◌, ◌-◌, ◌/◌, ◌%◌, IfOk, IfErr, IfSome, OnErr, is_some, length, min, slice_set};
 ghost use Rattle.tx_model.specs.Book.{map, unmap, protect, store};
 ghost use Rattle.tx_model.specs.Forms.{Caller};
 ghost use Rattle.tx_model.specs.Memory.{no_memory, page_at, all_good, bytes_from, put_bytes, is_good};
@@ -20,6 +20,9 @@ use std::alloc::Global;
 use std::marker::Model;
 use std::mem;
 use tx_base::{ADDRESSES, NoMemory, PAGE_BYTES, PAGES, number_below};
+
+/// What the bytes of a page that is not mapped are shown as.
+const NOT_MAPPED: &[u8] = &[0; PAGE_BYTES];
 
 /// The pages of a process: numbers 0 to 15, addresses 0 to 1,023. Contracts see what each number
 /// has.
@@ -179,6 +182,24 @@ impl Space {
         match &self.pages[start / PAGE_BYTES] {
             Some(page) => Ok(page.bytes()[start % PAGE_BYTES]),
             None => Err(PageError::Fault),
+        }
+    }
+
+    /// The bytes from an address on, up to the end of its page, but at most so many: zeros where the
+    /// page is not mapped. The address must be 0 to 1,023.
+    pub fn part(&self, address: usize, most: usize) -> &[u8]
+        requires { address < 1024 }
+        ensures bytes { result.now ≡ bytes_from self.now address (length result.now) }
+        ensures rest { (n : ℕ) →
+            bytes_from self.now address (length result.now + n)
+            ≡ result.now ++ bytes_from self.now (address + length result.now) n }
+        ensures count { length result.now ≡ min most (64 - address % 64) }
+    {
+        let offset = address % PAGE_BYTES;
+        let count = most.min(PAGE_BYTES - offset);
+        match self.page(address / PAGE_BYTES) {
+            Some(page) => &page.bytes()[offset..offset + count],
+            None => &NOT_MAPPED[..count],
         }
     }
 
@@ -444,23 +465,9 @@ impl Space {
     {
         let mut done = 0;
         while done < out.len() {
-            let address = start + done;
-            let some = (out.len() - done).min(PAGE_BYTES - address % PAGE_BYTES);
-            self.copy_part(address, &mut out[done..done + some]);
-            done += some;
-        }
-    }
-
-    /// Copies the bytes from an address on that lie on one page, 0 where it is not mapped.
-    fn copy_part(&self, address: usize, out: &mut [u8])
-        requires below { address < 1024 }
-        requires within { address % 64 + length out.old ≤ 64 }
-        ensures { out.new ≡ bytes_from self.now address (length out.old) }
-    {
-        let offset = address % PAGE_BYTES;
-        match self.page(address / PAGE_BYTES) {
-            Some(page) => out.copy_from_slice(&page.bytes()[offset..offset + out.len()]),
-            None => out.fill(0),
+            let part = self.part(start + done, out.len() - done);
+            out[done..done + part.len()].copy_from_slice(part);
+            done += part.len();
         }
     }
 }

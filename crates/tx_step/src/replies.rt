@@ -1,12 +1,11 @@
 //! The replies to accepted steps.
 ghost use Rattle.std.specs.Option.{option_copied};
-ghost use Rattle.std.specs.Prelude.{◌≡◌, ◌≤◌, [], Some, length};
+ghost use Rattle.std.specs.Prelude.{◌≡◌, ◌≤◌, ◌<◌, ◌+◌, ◌++◌, ℕ, [], Some, length};
 ghost use Rattle.tx_base.specs.declared.steps.Reply.TheVariants.{Committed, Done, Out};
 ghost use Rattle.tx_base.specs.Slots.{slot_at};
 ghost use Rattle.tx_change.specs.Laws.{HasPlaces};
 ghost use Rattle.tx_kernel.specs.Plans.{memory_in};
-ghost use Rattle.tx_model.specs.Memory.{bytes_from, loaded_byte};
-ghost use Rattle.tx_model.specs.Words.{byte_or_zero};
+ghost use Rattle.tx_model.specs.Memory.{bytes_from};
 ghost use Rattle.tx_proc.specs.Parts.{process_in};
 ghost use Rattle.tx_step.specs.Steps.{FitsReply, replied};
 ghost use Rattle.tx_txn.specs.Outboxes.{missed_in};
@@ -102,23 +101,45 @@ fn shown_bytes(proc: Option<&Proc>, shown: Shown) -> ArrayVec<u8, 64>
           (memory_in (process_in (option_copied proc.entry))) shown.address shown.count;
     } }
 {
+    let start = shown.address.min(ADDRESSES); // what is above is no address either
     let mut bytes = ArrayVec::new();
-    for place in 0..shown.count {
-        // A sum that is too large is no address either.
-        let address = shown.address.saturating_add(place);
-        let _fits = bytes.try_push(byte_at(proc, address));
+    let mut done = 0;
+    while done < shown.count {
+        done += push_part(proc, start + done, shown.count - done, &mut bytes);
     }
     bytes
 }
 
-/// The byte at an address of a process's memory; 0 where no page is mapped, or there is no process.
-fn byte_at(proc: Option<&Proc>, address: usize) -> u8
-    requires { HasPlaces (option_copied proc) }
-    ensures { result ≡ byte_or_zero
-        (loaded_byte (memory_in (process_in (option_copied proc.entry))) (Some address)) }
+/// Appends the bytes of a process's memory from an address on, up to the end of its page, but at most so
+/// many: 0 where no page is mapped. Appends one 0 where that is no address, or there is no process.
+/// Answers how many.
+fn push_part(
+    proc: Option<&Proc>,
+    address: usize,
+    most: usize,
+    bytes: &mut ArrayVec<u8, 64>,
+) -> usize
+    requires places { HasPlaces (option_copied proc) }
+    requires some { 0 < most }
+    requires room { length bytes.old.items + most ≤ 64 }
+    ensures some { 0 < result }
+    ensures few { result ≤ most }
+    ensures long { length bytes.new.items ≡ length bytes.old.items + result }
+    ensures rest { (n : ℕ) →
+        bytes.old.items ++ bytes_from
+        (memory_in (process_in (option_copied proc.entry))) address (result + n)
+        ≡ bytes.new.items ++ bytes_from
+        (memory_in (process_in (option_copied proc.entry))) (address + result) n }
 {
     match proc {
-        Some(proc) if address < ADDRESSES => proc.space.load(address as i64).unwrap_or(0),
-        _ => 0,
+        Some(proc) if address < ADDRESSES => {
+            let part = proc.space.part(address, most);
+            let _fits = bytes.try_extend_from_slice(part);
+            part.len()
+        }
+        _ => {
+            let _fits = bytes.try_push(0);
+            1
+        }
     }
 }

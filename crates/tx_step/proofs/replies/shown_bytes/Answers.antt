@@ -1,10 +1,21 @@
-use Rattle.std.proofs.Common.{arith}
+use Rattle.std.proofs.Common.{◌≡◌, ℕ, ◌+◌, ◌-◌, ◌++◌, List, arith, ap, sym, ◌∙◌}
+use Rattle.std.proofs.lemmas.List.{append-nil}
 use Rattle.std.specs.Option.{option_copied}
-use Rattle.tx_step.proofs.ShownBytes.{shown_more}
+use Rattle.tx_kernel.specs.Plans.{memory_in}
+use Rattle.tx_model.specs.Memory.{Memory, bytes_from}
+use Rattle.tx_proc.specs.Parts.{process_in}
+use Rattle.tx_step.proofs.ShownBytes.{memory_long, nearest_same}
 use Rattle.tx_step.proofs.replies.shown_bytes.Goals as goal
 
-pub loop-place-preserved : goal.loop-place-preserved
-loop-place-preserved c =
-    shown_more (option_copied c.args.proc) c.args.shown.address c.loop-place.place c.saturating_add-address.result c.byte_at.result _ c.loop-place.bytes.items c.try_push-fits.new.self.items c.try_push-fits.result
-    c.requires.places (omega (arith, c.loop-place-test.true, c.requires.few)) (omega arith) c.saturating_add-address.ensures c.byte_at.ensures c.loop-place.invariant
-    c.try_push-fits.ensures.ok c.try_push-fits.ensures.full
+pub returns : goal.returns
+returns c =
+    let memory : Memory = memory_in (process_in (option_copied c.args.proc)) in
+    let bytes : List ℕ = c.loop-done.bytes.items in
+    let none : c.args.shown.count - c.loop-done.done ≡ 0 = omega (arith, c.loop-done-test.false) in
+    let items : bytes ≡ bytes_from memory c.args.shown.address c.args.shown.count
+    = sym (append-nil bytes)
+    ∙ ap (λ (n : ℕ). bytes ++ bytes_from memory (c.min-start.result + c.loop-done.done) n) (sym none)
+    ∙ c.loop-done.invariant.bytes
+    ∙ ap (λ (a : ℕ). bytes_from memory a c.args.shown.count) c.min-start.ensures
+    ∙ nearest_same memory c.args.shown.address c.args.shown.count (memory_long (option_copied c.args.proc) c.requires.places) in
+    λ i. record { items = items i }
