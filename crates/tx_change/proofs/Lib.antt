@@ -10,6 +10,7 @@ pub mod Counted
 pub mod InTurn
 pub mod InLists
 pub mod Logged
+pub mod Answering
 pub mod Placed
 pub mod CountsBack
 pub mod Stacked

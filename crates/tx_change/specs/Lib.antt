@@ -1,6 +1,7 @@
 pub mod Boot
 pub mod Pipes
 pub mod Exchange
+pub mod Answered
 pub mod Own
 pub mod States
 pub mod Laws

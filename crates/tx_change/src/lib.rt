@@ -13,7 +13,8 @@
 //! `apply` swaps the changes of a list from the first to the last, `revert` from the last to the
 //! first. A `Log` is such a list that grows: plans are pushed at its end, it makes them from a
 //! place on (`make_from`), and it leads old parts back (`lead_back`, `give_back`). `move_back` leads
-//! them back onto a stack of changes, and `move_forward` makes them again from there.
+//! them back onto a stack of changes, and `move_forward` makes them again from there. It has its
+//! newest part apart where that is an answer.
 //!
 //! `CountsAgree` says of the parts that each description has as many names as descriptors of
 //! running processes name it. `places_stay` is that changes leave each process a place for each
@@ -27,6 +28,7 @@
 //! So a change is a plan before its swap and a record of the old part after it. It is the only way
 //! in which anything above changes a part.
 
+mod answered;
 mod change;
 mod laws;
 mod log;

@@ -1,44 +1,65 @@
 //! Old parts of the kernel, the oldest first.
-ghost use Rattle.std.specs.Prelude.{◌≡◌, ◌≤◌, ◌+◌, ◌-◌, ◌++◌, ◌∷◌, [], length, take, drop, reverse, vec_capacity, IfOk, OnOk, OnErr};
+ghost use Rattle.std.specs.Prelude.{◌≡◌, ◌≤◌, ◌+◌, ◌-◌, ◌++◌, ◌∷◌, [], None, length, take, drop, reverse, vec_capacity, IfOk, OnOk, OnErr};
+ghost use Rattle.tx_change.specs.Answered.{answered};
 ghost use Rattle.tx_change.specs.Exchange.{applied, exchanged, undone, reverted, AreNamed};
 ghost use Rattle.tx_change.specs.Stacks.{below_top, top_of};
+ghost use Rattle.tx_change.specs.declared.change.Change.TheVariants.{Part as SetPart};
+ghost use Rattle.tx_proc.specs.declared.proc.Part.TheVariants.{Answer as SetAnswer};
 
+use crate::answered::Answered;
 use crate::change::Change;
 use crate::parts::Parts;
 use crate::run::{apply, revert};
 use std::alloc::Global;
 use std::marker::Model;
-use tx_base::NoMemory;
+use tx_base::{NoMemory, Pid};
+use tx_proc::Answer;
 
 /// Old parts, the oldest first. Led back, it gives the parts before the oldest was kept.
 #[derive(Drop)]
 pub struct Log {
     changes: Vec<Change>,
+    /// The newest old part, if that is an answer which is apart.
+    answer: Option<Answered>,
 }
 
 impl Model for Log {
-    ghost use Rattle.std.specs.Prelude.{List};
+    ghost use Rattle.std.specs.Prelude.{List, ◌++◌};
+    ghost use Rattle.tx_change.specs.Answered.{answered};
     ghost use Rattle.tx_change.specs.declared.change.Change.{Change};
 
     ghost Value = { List Change };
 
-    ghost view = { λ log. log.changes.items };
+    ghost view = { λ log. log.changes.items ++ answered log.answer };
 }
 
 impl Log {
+    /// An empty log. It takes no memory before it has more than an answer.
+    pub fn new(alloc: Global) -> Log
+        ensures { result ≡ [] }
+    {
+        Log {
+            changes: Vec::new(alloc),
+            answer: None,
+        }
+    }
+
     /// An empty log with room for so many. NoMemory where that is refused.
     pub fn with_room(alloc: Global, room: usize) -> Result<Log, NoMemory>
         ensures { IfOk result (λ log. log ≡ []) }
     {
         let changes = Vec::with_capacity(alloc, room)?;
-        Ok(Log { changes })
+        Ok(Log {
+            changes,
+            answer: None,
+        })
     }
 
     /// How many old parts it has.
     pub fn len(&self) -> usize
         ensures { result ≡ length self.now }
     {
-        self.changes.len()
+        self.changes.len() + self.answer.is_some() as usize
     }
 
     /// Makes room for so many more. The log is as it was; NoMemory where a growth is refused.
@@ -50,19 +71,60 @@ impl Log {
     }
 
     /// Appends a new part, which is to be exchanged. After want of memory the log is as it was.
+    #[inline(always)] // a change is large, and would be copied once more
     pub fn push(&mut self, change: Change) -> Result<(), NoMemory>
         ensures ok { OnOk result (self.new ≡ self.old ++ change ∷ []) }
         ensures err { OnErr result (self.new ≡ self.old) }
     {
+        if self.answer.is_none() && self.changes.len() < self.changes.capacity() {
+            self.changes.push_reserved(change);
+            return Ok(());
+        }
+        self.push_settled(change)
+    }
+
+    /// Appends a new answer of a process, which is to be exchanged. After want of memory the log is as
+    /// it was.
+    pub fn push_answer(&mut self, pid: Pid, answer: Answer) -> Result<(), NoMemory>
+        ensures ok { OnOk result (self.new ≡ self.old ++ SetPart pid (SetAnswer answer) ∷ []) }
+        ensures err { OnErr result (self.new ≡ self.old) }
+    {
+        let answered = Answered { pid, answer };
+        if self.answer.is_some() {
+            return self.push_settled(answered.change());
+        }
+        self.answer = Some(answered);
+        Ok(())
+    }
+
+    /// Appends a new part to the list, after the answer if that is apart. After want of memory the log
+    /// is as it was.
+    #[inline(never)] // inlined, each push would have all of this
+    fn push_settled(&mut self, change: Change) -> Result<(), NoMemory>
+        ensures ok { OnOk result (self.new ≡ self.old ++ change ∷ []) }
+        ensures err { OnErr result (self.new ≡ self.old) }
+    {
+        settle(&mut self.changes, &mut self.answer)?;
         self.changes.push(change)?;
         Ok(())
+    }
+
+    /// Moves the answer that is apart to the list, so that a step which follows finds room for its own.
+    /// After want of memory all is as it was.
+    pub fn settle(&mut self) -> Result<(), NoMemory>
+        ensures { self.new ≡ self.old }
+    {
+        settle(&mut self.changes, &mut self.answer)
     }
 
     /// Forgets all but the first so many.
     pub fn truncate(&mut self, count: usize)
         ensures { self.new ≡ take count self.old }
     {
-        self.changes.truncate(count);
+        if count <= self.changes.len() {
+            self.answer = None;
+            self.changes.truncate(count);
+        }
     }
 
     /// Makes the exchanges from that place on, the first one first. The log then has what was there.
@@ -71,7 +133,11 @@ impl Log {
         ensures parts { parts.new ≡ applied parts.old (drop from self.old) }
         ensures log { self.new ≡ take from self.old ++ exchanged parts.old (drop from self.old) }
     {
+        let has_more = from <= self.changes.len();
         apply_from(&mut self.changes, parts, from);
+        if has_more {
+            swap_answer(&mut self.answer, parts);
+        }
     }
 
     /// Leads the last few old parts back, and forgets them.
@@ -81,7 +147,16 @@ impl Log {
         ensures parts { parts.new ≡ undone parts.old (drop (length self.old - count) self.old) }
         ensures log { self.new ≡ take (length self.old - count) self.old }
     {
-        lead_back_last(&mut self.changes, parts, count);
+        if count == 0 {
+            return;
+        }
+        match self.answer.take() {
+            Some(mut answered) => {
+                answered.swap(parts);
+                lead_back_last(&mut self.changes, parts, count - 1);
+            }
+            None => lead_back_last(&mut self.changes, parts, count),
+        }
     }
 
     /// Leads the last few old parts back, and moves what was there onto a stack of changes, which must
@@ -96,7 +171,17 @@ impl Log {
             ++ reverse (reverted parts.old (drop (length self.old - count) self.old)) }
         ensures capacity { vec_capacity stack.new ≡ vec_capacity stack.old }
     {
-        move_last_back(&mut self.changes, parts, count, stack);
+        if count == 0 {
+            return;
+        }
+        match self.answer.take() {
+            Some(mut answered) => {
+                answered.swap(parts);
+                stack.push_reserved(answered.change());
+                move_last_back(&mut self.changes, parts, count - 1, stack);
+            }
+            None => move_last_back(&mut self.changes, parts, count, stack),
+        }
     }
 
     /// Makes as many changes again as were moved onto the stack, the topmost first, and moves what was
@@ -121,6 +206,7 @@ impl Log {
         ensures stack_err { OnErr result (stack.new ≡ stack.old) }
     {
         let log = &mut self.changes;
+        settle(log, &mut self.answer)?;
         log.reserve(count)?;
         move_last_forward(log, parts, count, stack);
         Ok(())
@@ -132,6 +218,7 @@ impl Log {
         ensures parts { parts.new ≡ undone parts.old self.old }
         ensures log { self.new ≡ reverted parts.old self.old }
     {
+        swap_answer(&mut self.answer, parts);
         revert(parts, &mut self.changes);
     }
 
@@ -142,6 +229,33 @@ impl Log {
         ensures log { self.new ≡ exchanged parts.old self.old }
     {
         apply(parts, &mut self.changes);
+        swap_answer(&mut self.answer, parts);
+    }
+}
+
+/// Moves the answer to the end of the list, if there is one. After want of memory all is as it was.
+fn settle(changes: &mut Vec<Change>, answer: &mut Option<Answered>) -> Result<(), NoMemory>
+    ensures changes { OnOk result
+        (changes.new.items ≡ changes.old.items ++ answered answer.old) }
+    ensures answer { OnOk result (answer.new ≡ None) }
+    ensures changes_err { OnErr result (changes.new.items ≡ changes.old.items) }
+    ensures answer_err { OnErr result (answer.new ≡ answer.old) }
+{
+    if let Some(answered) = *answer {
+        changes.push(answered.change())?;
+        *answer = None;
+    }
+    Ok(())
+}
+
+/// Exchanges the answer, if there is one.
+fn swap_answer(answer: &mut Option<Answered>, parts: &mut Parts)
+    requires { AreNamed parts.old (answered answer.old) }
+    ensures parts { parts.new ≡ applied parts.old (answered answer.old) }
+    ensures answer { answered answer.new ≡ exchanged parts.old (answered answer.old) }
+{
+    if let Some(answered) = answer {
+        answered.swap(parts);
     }
 }
 

@@ -39,6 +39,7 @@ pub(crate) fn answer_of(posted: Result<(), Errno>) -> i64
 
 impl Actor<'_> {
     /// Appends a new part of the process. After want of memory the log is as it was.
+    #[inline(always)] // a part is large, and would be copied once more
     pub(crate) fn push(&self, part: Part, log: &mut Log) -> Result<(), NoMemory>
         ensures ok { OnOk result (log.new ≡ log.old ++ SetPart self.now.pid part ∷ []) }
         ensures err { OnErr result (log.new ≡ log.old) }
@@ -53,7 +54,7 @@ impl Actor<'_> {
             ∷ []) }
         ensures err { OnErr result (log.new ≡ log.old) }
     {
-        self.push(Part::Answer(Answer::at(self.proc.regs.point, ret)), log)
+        log.push_answer(self.pid, Answer::at(self.proc.regs.point, ret))
     }
 
     /// Plans an answer, and nothing else. After want of memory the log is as it was.

@@ -148,7 +148,7 @@ impl Actor<'_> {
         let blocked = with(self.proc.mask.union(mask), signo);
         self.push(Part::Mask(blocked), log)?;
         self.push(Part::Frame(frame), log)?;
-        self.push(Part::Answer(Answer { point, ret: value }), log)?;
+        log.push_answer(self.pid, Answer { point, ret: value })?;
         Ok(Outcome::Done(value))
     }
 

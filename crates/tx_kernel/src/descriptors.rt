@@ -229,6 +229,7 @@ impl Actor<'_> {
     }
 
     /// Appends what a descriptor is to name. After want of memory the log is as it was.
+    #[inline(always)] // as `push`
     fn push_name(&self, new: NewName, log: &mut Log) -> Result<(), NoMemory>
         ensures ok { OnOk result (log.new ≡ log.old ++ name_changes self.now.pid (new ∷ [])) }
         ensures err { OnErr result (log.new ≡ log.old) }
@@ -237,6 +238,7 @@ impl Actor<'_> {
     }
 
     /// Appends what a description number is to have. After want of memory the log is as it was.
+    #[inline(always)] // as `push`
     fn push_desc(&self, new: NewDesc, log: &mut Log) -> Result<(), NoMemory>
         ensures ok { OnOk result (log.new ≡ log.old ++ desc_changes (new ∷ [])) }
         ensures err { OnErr result (log.new ≡ log.old) }

@@ -39,7 +39,7 @@ impl Actor<'_> {
         if !does_jump(when, ret) {
             return self.plan_answer(ret, log);
         }
-        self.push(Part::Answer(Answer { point, ret }), log)?;
+        log.push_answer(self.pid, Answer { point, ret })?;
         Ok(Outcome::Done(ret))
     }
 

@@ -149,7 +149,7 @@ impl Actor<'_> {
         let none = BoxedFrame::new(alloc, None)?;
         self.push(Part::Frame(none), log)?;
         let Regs { point, ret, .. } = frame.registers;
-        self.push(Part::Answer(Answer { point, ret }), log)?;
+        log.push_answer(self.pid, Answer { point, ret })?;
         Ok(Outcome::Done(ret))
     }
 

@@ -162,8 +162,9 @@ pub(crate) fn make_in(
     ensures parts { OnErr result (parts.new ≡ parts.old) }
     ensures txn { OnErr result (txn.new ≡ txn.old) }
 {
-    let from = txn.log.len();
     let inside = txn.inside(marks);
+    txn.log.settle()?;
+    let from = txn.log.len();
     let planned = plan(alloc, parts, pid, Some(inside), act, &mut txn.log)?;
     let Ok(()) = hold_sends(&mut txn.outbox, &planned.sends) else {
         txn.log.truncate(from);

@@ -47,7 +47,7 @@ impl Content {
             log.truncate(0);
             return self.make_logged(alloc, pid, act, log, post);
         }
-        let mut log = self.txns.fresh_log(alloc)?;
+        let mut log = self.txns.fresh_log(alloc);
         let mut post = None;
         match self.make_logged(alloc, pid, act, &mut log, &mut post) {
             Ok(outcome) => {

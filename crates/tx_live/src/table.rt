@@ -127,19 +127,19 @@ impl TxnTable {
         new_box(alloc, starter, defers, proc)
     }
 
-    /// An empty log for a step outside. The room is that of an earlier step's, if some was kept.
-    ///
-    /// NoMemory where a growth is refused.
-    pub(crate) fn fresh_log(&mut self, alloc: Global) -> Result<Log, NoMemory>
+    /// An empty log for a step outside. The room is that of an earlier step's, if some was kept. It takes
+    /// no memory.
+    pub(crate) fn fresh_log(&mut self, alloc: Global) -> Log
         ensures table { self.new ≡ self.old }
-        ensures log { IfOk result (λ log. log ≡ []) }
+        ensures log { result ≡ [] }
     {
-        if let Some(mut log) = self.spare_log.take() {
-            log.truncate(0);
-            return Ok(log);
+        match self.spare_log.take() {
+            Some(mut log) => {
+                log.truncate(0);
+                log
+            }
+            None => Log::new(alloc),
         }
-        let log = Log::with_room(alloc, 2)?;
-        Ok(log)
     }
 
     /// Keeps the room of a transaction that ended, if that is not large.

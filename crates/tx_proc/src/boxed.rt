@@ -1,8 +1,9 @@
 //! What stands in a place of its own: a process, and a frame that is exchanged.
 ghost use Rattle.std.specs.Prelude.{◌≡◌, IfOk};
 ghost use Rattle.tx_proc.specs.Parts.{edited_once, part_of, frames_swapped, frame_given, with_pending, HasPlace};
+ghost use Rattle.tx_proc.specs.declared.proc.Part.TheVariants.{Answer as SetAnswer};
 
-use crate::proc::{Part, Proc};
+use crate::proc::{Answer, Part, Proc, swap_answer};
 use std::alloc::Global;
 use std::marker::Model;
 use tx_base::{NoMemory, Pid};
@@ -64,6 +65,14 @@ impl BoxedProc {
             *parent = *coming;
         }
         part.swap(proc);
+    }
+
+    /// Exchanges the point and the answer of the process, as `swap_part` does, for less.
+    pub fn swap_answer(&mut self, answer: &mut Answer)
+        ensures proc { self.new ≡ edited_once self.old (SetAnswer answer.old) }
+        ensures answer { SetAnswer answer.new ≡ part_of self.old (SetAnswer answer.old) }
+    {
+        swap_answer(&mut self.proc.regs, answer);
     }
 
     /// Exchanges all that is pending at the process.

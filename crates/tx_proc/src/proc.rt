@@ -185,7 +185,7 @@ impl Part {
 }
 
 /// Exchanges the point and the answer, and leaves the slots.
-fn swap_answer(regs: &mut Regs, answer: &mut Answer)
+pub(crate) fn swap_answer(regs: &mut Regs, answer: &mut Answer)
     ensures regs { regs.new ≡ record regs.old { point = answer.old.point; ret = answer.old.ret } }
     ensures answer { answer.new ≡ record { point = regs.old.point; ret = regs.old.ret } }
 {

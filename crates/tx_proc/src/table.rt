@@ -4,10 +4,11 @@ ghost use Rattle.std.specs.Prelude.{◌≡◌, ◌≤◌, ◌↔◌, None, Some,
 ghost use Rattle.tx_base.specs.Slots.{slot_at, with_slot};
 ghost use Rattle.tx_proc.specs.Children.{child_count, parent_in, HasOne, Recounts};
 ghost use Rattle.tx_proc.specs.Parts.{edited_once, part_in, part_of, pending_in, with_pending, HasPlace};
+ghost use Rattle.tx_proc.specs.declared.proc.Part.TheVariants.{Answer as SetAnswer};
 
 use crate::boxed::BoxedProc;
 use crate::children::ChildCounts;
-use crate::proc::{Part, Proc};
+use crate::proc::{Answer, Part, Proc};
 use std::alloc::Global;
 use std::marker::Model;
 use std::mem;
@@ -140,6 +141,22 @@ impl ProcTable {
         let ProcTable { slots, children } = self;
         if let Some(boxed) = &mut slots[pid.0 as usize - 1] {
             exchange_part(boxed, part, children);
+        }
+    }
+
+    /// Exchanges the point and the answer of the process that a number has, as `swap_part` does, for
+    /// less. The number must be one that there is.
+    pub fn swap_answer(&mut self, pid: Pid, answer: &mut Answer)
+        requires low { 1 ≤ pid.0 }
+        requires high { pid.0 ≤ length self.old }
+        ensures exchanged { self.new
+            ≡ with_slot self.old pid.0
+            (option_map (λ proc. edited_once proc (SetAnswer answer.old)) (slot_at self.old pid.0)) }
+        ensures given { SetAnswer answer.new
+            ≡ part_in (slot_at self.old pid.0) (SetAnswer answer.old) }
+    {
+        if let Some(boxed) = &mut self.slots[pid.0 as usize - 1] {
+            boxed.swap_answer(answer);
         }
     }
 

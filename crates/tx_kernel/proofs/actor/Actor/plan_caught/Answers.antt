@@ -14,6 +14,6 @@ returns-clause-ok c =
     let fits : FitsSigned w64 c.args.catch.value = search rules in
     let bits : bits_of c.with-blocked.result ≡ with_one_more (bit_or (me_of actor).mask (bits_of c.args.catch.mask)) c.args.signo.0
     = c.with-blocked.ensures ∙ ap (λ (set : ℕ). with_one_more set c.args.signo.0) (c.union.ensures tt) in
-    caught_plans actor c.args.log.now c.push_relieved.new.log c.push.new.log c.push-2.new.log c.push-3.new.log c.args.signo.0 c.args.catch.value _ c.args.catch.point c.args.catch.mask
+    caught_plans actor c.args.log.now c.push_relieved.new.log c.push.new.log c.push-2.new.log c.push_answer.new.self c.args.signo.0 c.args.catch.value _ c.args.catch.point c.args.catch.mask
     c.with-blocked.result c.in_ok-frame.frame (to_z-of_z w64 c.args.catch.value fits) c.requires.room c.in_ok-push_relieved.ensures.ok c.in_ok-push.ensures.ok c.in_ok-push-2.ensures.ok
-    c.in_ok-push-3.ensures.ok bits c.in_ok-frame.ensures
+    c.in_ok-push_answer.ensures.ok bits c.in_ok-frame.ensures

@@ -41,9 +41,9 @@ returns-clause-ok c =
     let same = to_z-of_z w64 actor.proc.now.regs.ret fits in
     let ret = to_z w64 (of_z w64 actor.proc.now.regs.ret) in
     let part = SetAnswer (record { point = c.args.point; ret = ret }) in
-    own_same actor c.args.log.now c.push.new.log (outcome.Done ret) (λ S. own_reply actor (outcome.Done ret) (revised part me)) (effect_by actor (jump c.args.point c.args.when))
-    (part_whole actor c.args.log.now c.push.new.log (outcome.Done ret) (revised part)
-    (part_more actor c.args.log.now c.args.log.now c.push.new.log (λ q. q) part (part_none actor c.args.log.now) tt tt c.in_ok-push.ensures.ok) tt)
+    own_same actor c.args.log.now c.push_answer.new.self (outcome.Done ret) (λ S. own_reply actor (outcome.Done ret) (revised part me)) (effect_by actor (jump c.args.point c.args.when))
+    (part_whole actor c.args.log.now c.push_answer.new.self (outcome.Done ret) (revised part)
+    (part_more actor c.args.log.now c.args.log.now c.push_answer.new.self (λ q. q) part (part_none actor c.args.log.now) tt tt c.in_ok-push_answer.ensures.ok) tt)
     (λ S. (λ j. own_effect actor.pid.0 (record { process = record me { registers = record me.registers { point = c.args.point; ret = same j } }; reply = Done (same j) }))
     ∙ sym (ap (effect_of actor.pid.0 me) (passes (nat_lt LAST_POINT c.args.point) _ _ (le-ltb LAST_POINT c.args.point c.if-point-gt-LAST_POINT.false)
     ∙ passes (not (is_jump_taken c.args.when (last_ret me))) _ (stands (stands_at c.args.point me) (Done (last_ret me))) (ap not (sym (simp same at c.if-not-does_jump.ensures))))))

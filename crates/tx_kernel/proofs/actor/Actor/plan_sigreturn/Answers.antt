@@ -24,5 +24,5 @@ pub returns-clause-ok : goal.returns-clause-ok
 returns-clause-ok c =
     let frame : Frame = record { registers = c.frame.inside.registers; mask = bits_of c.frame.inside.mask } in
     let fits : FitsSigned w64 c.frame.inside.registers.ret = search rules in
-    returned c.args.self.now c.args.log.now c.push_slots.new.log c.push.new.log c.push-2.new.log c.push-3.new.log frame c.frame.inside.mask c.in_ok-none.none _ (to_z-of_z _ _ fits)
-    c.in_ok-push_slots.ensures.ok c.in_ok-push.ensures.ok c.in_ok-push-2.ensures.ok c.in_ok-push-3.ensures.ok refl (sym c.in-Some.ensures ∙ ap Some (sym c.frame.view_is)) c.in_ok-none.ensures c.len-few.ensures.fits
+    returned c.args.self.now c.args.log.now c.push_slots.new.log c.push.new.log c.push-2.new.log c.push_answer.new.self frame c.frame.inside.mask c.in_ok-none.none _ (to_z-of_z _ _ fits)
+    c.in_ok-push_slots.ensures.ok c.in_ok-push.ensures.ok c.in_ok-push-2.ensures.ok c.in_ok-push_answer.ensures.ok refl (sym c.in-Some.ensures ∙ ap Some (sym c.frame.view_is)) c.in_ok-none.ensures c.len-few.ensures.fits
