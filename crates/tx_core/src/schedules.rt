@@ -24,9 +24,9 @@ pub struct Ran {
     pub history: Vec<Accepted>,
 }
 
-/// A run up to the step that wanted memory.
+/// What is kept of a run, up to the step that was refused memory.
 #[derive(Drop)]
-pub struct PartialRun {
+pub struct Kept {
     /// The run of the steps that were made: those before the one where it stopped, or all.
     pub ran: Ran,
     /// The number of the step where it stopped, counted from 0. None where all were made.
@@ -35,8 +35,8 @@ pub struct PartialRun {
 
 /// Runs a schedule on a machine of 64 process numbers, of which the first few run.
 ///
-/// Answers `NoMemory` where a step answers so, or where its place in the history is refused. The run
-/// is then let go: `run_partial` keeps it.
+/// `NoMemory` if a step answers that, or if its place in the history is refused. The run is then
+/// lost: `run_kept` keeps it.
 pub fn run(alloc: Global, count: u16, steps: &[Step]) -> Result<Ran, NoMemory>
     requires low { 1 ≤ count }
     requires high { count ≤ 64 }
@@ -51,7 +51,7 @@ pub fn run(alloc: Global, count: u16, steps: &[Step]) -> Result<Ran, NoMemory>
     ensures moments { IfOk result (λ ran.
         HasMoments (boot_state 64 count) (reverse ran.history.items)) }
 {
-    // The laws that the agreement and the moments stand on.
+    // The laws that the agreement and the moments need.
     erasure();
     one_moment();
     run_whole(alloc, Machine::boot(alloc, count)?, steps)
@@ -73,39 +73,39 @@ pub fn run_wide(alloc: Global, count: u16, steps: &[Step]) -> Result<Ran, NoMemo
     ensures moments { IfOk result (λ ran.
         HasMoments (boot_state 256 count) (reverse ran.history.items)) }
 {
-    // The laws that the agreement and the moments stand on.
+    // The laws that the agreement and the moments need.
     erasure();
     one_moment();
     run_whole(alloc, Machine::boot_wide(alloc, count)?, steps)
 }
 
-/// Runs a schedule as `run` does, on a machine with the processes 1 to count, which is 1 to 64, and
-/// keeps what was run where memory is wanted: for a caller that shows it, or goes on from there.
+/// Runs a schedule as `run` does, on a machine with processes 1 to `count`, which is 1 to 64, and
+/// keeps what was run if memory is refused: for a caller that shows it, or goes on from there.
 ///
 /// `stopped` is then the number, counted from 0, of the step that answered `NoMemory` or whose place
 /// in the history was refused. That step changed nothing, and `ran` is the run of the steps before it.
 ///
-/// Answers `NoMemory` only where the machine is refused, before the first step.
-pub fn run_partial(alloc: Global, count: u16, steps: &[Step]) -> Result<PartialRun, NoMemory>
+/// `NoMemory` only if the machine is refused, before the first step.
+pub fn run_kept(alloc: Global, count: u16, steps: &[Step]) -> Result<Kept, NoMemory>
     requires low { 1 ≤ count }
     requires high { count ≤ 64 }
-    ensures history { IfOk result (λ partial.
-        reverse partial.ran.history.items
-        ≡ history_of (boot_state 64 count) [] (steps_made partial.stopped steps.now)) }
-    ensures lawful { IfOk result (λ partial.
-        Lawful (boot_state 64 count) (reverse partial.ran.history.items)) }
-    ensures view { IfOk result (λ partial.
-        view_of partial.ran.machine
-        ≡ view (boot_state 64 count) (reverse partial.ran.history.items)) }
-    ensures agreement { IfOk result (λ partial.
-        (later earlier : List TheAccepted) → reverse partial.ran.history.items ≡ later ++ earlier →
+    ensures history { IfOk result (λ kept.
+        reverse kept.ran.history.items
+        ≡ history_of (boot_state 64 count) [] (steps_made kept.stopped steps.now)) }
+    ensures lawful { IfOk result (λ kept.
+        Lawful (boot_state 64 count) (reverse kept.ran.history.items)) }
+    ensures view { IfOk result (λ kept.
+        view_of kept.ran.machine
+        ≡ view (boot_state 64 count) (reverse kept.ran.history.items)) }
+    ensures agreement { IfOk result (λ kept.
+        (later earlier : List TheAccepted) → reverse kept.ran.history.items ≡ later ++ earlier →
         Agreement (boot_state 64 count) earlier) }
-    ensures moments { IfOk result (λ partial.
-        HasMoments (boot_state 64 count) (reverse partial.ran.history.items)) }
-    ensures stopped { IfOk result (λ partial.
-        IfSome partial.stopped (λ number. number < length steps.now)) }
+    ensures moments { IfOk result (λ kept.
+        HasMoments (boot_state 64 count) (reverse kept.ran.history.items)) }
+    ensures stopped { IfOk result (λ kept.
+        IfSome kept.stopped (λ number. number < length steps.now)) }
 {
-    // The laws that the agreement and the moments stand on.
+    // The laws that the agreement and the moments need.
     erasure();
     one_moment();
     Ok(run_on(alloc, Machine::boot(alloc, count)?, steps))
@@ -117,15 +117,15 @@ fn run_whole(alloc: Global, machine: Machine, steps: &[Step]) -> Result<Ran, NoM
         (start : State) → view_of machine ≡ view start [] →
         RunsFrom start steps.now ran.machine ran.history.items) }
 {
-    let partial = run_on(alloc, machine, steps);
-    match partial.stopped {
-        None => Ok(partial.ran),
+    let kept = run_on(alloc, machine, steps);
+    match kept.stopped {
+        None => Ok(kept.ran),
         Some(_) => Err(NoMemory),
     }
 }
 
-/// Runs a schedule on a booted machine, up to the step that wants memory.
-fn run_on(alloc: Global, mut machine: Machine, steps: &[Step]) -> PartialRun
+/// Runs a schedule on a booted machine, up to the step that is refused memory.
+fn run_on(alloc: Global, mut machine: Machine, steps: &[Step]) -> Kept
     ensures run { (start : State) → view_of machine ≡ view start [] →
         RunsFrom start (steps_made result.stopped steps.now) result.ran.machine
         result.ran.history.items }
@@ -135,20 +135,20 @@ fn run_on(alloc: Global, mut machine: Machine, steps: &[Step]) -> PartialRun
     for (i, step) in steps.iter().enumerate() {
         if run_step(alloc, &mut machine, &mut history, step).is_err() {
             let ran = Ran { machine, history };
-            return PartialRun {
+            return Kept {
                 ran,
                 stopped: Some(i),
             };
         }
     }
     let ran = Ran { machine, history };
-    PartialRun { ran, stopped: None }
+    Kept { ran, stopped: None }
 }
 
-/// Makes one more step of a schedule, and records it where it was accepted. Its place in the history
+/// Makes one more step of a schedule, and records it if it was accepted. Its place in the history
 /// is reserved first, so that no step is made that can't be recorded.
 ///
-/// Answers `NoMemory` where that place is refused, or the step wants memory. The machine and the
+/// `NoMemory` if that place is refused, or memory is refused to the step. The machine and the
 /// history are then as they were.
 fn run_step(
     alloc: Global,

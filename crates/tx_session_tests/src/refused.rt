@@ -4,14 +4,14 @@
 ghost use Rattle.std.specs.Prelude.{IfSome};
 ghost use Rattle.tx_journal.specs.Sessions.{IsAtEnd};
 
-use crate::runs::{go, partial, ran};
+use crate::runs::{go, kept, ran};
 use crate::schedules::{NUMBERS_AGAIN, SIDE_BY_SIDE, numbers_again, side_by_side};
 use crate::sessions::make_steps;
 use crate::texts::{told, told_by};
 use std::alloc::Global;
 use std::process::Abort;
 use tx_base::{Accepted, NoMemory, Step};
-use tx_core::{PartialRun, Ran};
+use tx_core::{Kept, Ran};
 use tx_journal::{GotoFault, Session, print_state};
 use tx_pages::{PageError, Space};
 
@@ -50,10 +50,10 @@ fn a_run_is_made_whole_the_second_time(rt: HostRuntime) {
 }
 
 /// The run up to where it stopped.
-fn partial_run(rt: &impl Abort, alloc: Global, steps: &[Step]) -> PartialRun {
-    match partial(alloc, steps) {
+fn partial_run(rt: &impl Abort, alloc: Global, steps: &[Step]) -> Kept {
+    match kept(alloc, steps) {
         Ok(first) => first,
-        Err(NoMemory) => match partial(alloc, steps) {
+        Err(NoMemory) => match kept(alloc, steps) {
             Ok(second) => second,
             Err(NoMemory) => panic!(rt; "one growth alone is refused"),
         },

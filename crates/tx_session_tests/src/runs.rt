@@ -1,7 +1,7 @@
 //! Runs and walks, each call in a function of its own, since its clauses are long.
 use std::alloc::Global;
 use tx_base::{NoMemory, Step};
-use tx_core::{PartialRun, Ran, run, run_partial, run_wide};
+use tx_core::{Kept, Ran, run, run_kept, run_wide};
 use tx_journal::{GotoFault, Session};
 
 /// The run of a schedule from so many processes, 1 to 64.
@@ -15,8 +15,8 @@ pub(crate) fn ran_wide(alloc: Global, count: u16, steps: &[Step]) -> Result<Ran,
 }
 
 /// The run of a schedule from two processes, up to where it stops.
-pub(crate) fn partial(alloc: Global, steps: &[Step]) -> Result<PartialRun, NoMemory> {
-    run_partial(alloc, 2, steps)
+pub(crate) fn kept(alloc: Global, steps: &[Step]) -> Result<Kept, NoMemory> {
+    run_kept(alloc, 2, steps)
 }
 
 /// Goes to a position of a session.
