@@ -12,7 +12,7 @@ use std::fmt::Write;
 use tx_base::NoMemory;
 use tx_check::{Kind, Reader, check_text_for, kind_of, put_shown};
 use tx_lines::{Fault, Sink, Source, put, read_whole, split_at, write_whole};
-use tx_plain::{MeantLines, split_line};
+use tx_plain::{MeantLines, naming_in, split_line};
 
 /// What is said after a reply that is none.
 const REPLIES: &str = "; a reply is as in a report: ok 0, ok -9, ok EBADF, ended, committed, \
@@ -46,17 +46,25 @@ fn told_too(alloc: Global, text: &[u8]) -> Result<String, NoMemory>
     ensures { IfOk result (λ told. SaysToo text.now (string_bytes told)) }
 {
     let told = check_text_for(alloc, Reader::Any, text)?;
-    if told.is_empty() && kind_of(MeantLines::of(text)) == Kind::Schedule {
-        return Ok(own_troubles(alloc, text)?);
+    if !told.is_empty() {
+        return Ok(told);
     }
-    Ok(told)
+    let own = own_troubles(alloc, text)?;
+    // Most texts have none, and of what kind they are is asked of each line.
+    if own.is_empty() || kind_of(MeantLines::of(text)) != Kind::Schedule {
+        return Ok(told);
+    }
+    Ok(own)
 }
 
 /// What is wrong with the expectations and the names of a text that is read as a schedule: a line for
 /// each.
 fn own_troubles(alloc: Global, text: &[u8]) -> Result<String, AllocError> {
-    let last = last_told(text);
+    let outline = Outline::of(text);
     let mut told = String::new(alloc);
+    if !outline.is_named && split_at(b'#', text).is_none() {
+        return Ok(told);
+    }
     let mut names = Names::none(alloc);
     let mut place = Place::Start;
     let mut left = text;
@@ -64,7 +72,7 @@ fn own_troubles(alloc: Global, text: &[u8]) -> Result<String, AllocError> {
         let Some((line, rest)) = split_line(left) else {
             break;
         };
-        place = place.next(line, number > last);
+        place = place.next(line, number > outline.last);
         if let Some(trouble) = trouble_at(place, line) {
             put_trouble(&mut told, number, line, trouble)?;
         }
@@ -72,7 +80,9 @@ fn own_troubles(alloc: Global, text: &[u8]) -> Result<String, AllocError> {
             Place::Start => {}
             Place::Header => names.begin(line),
             Place::Step | Place::Between | Place::State => {
-                if let Some(column) = names.second_name(line)? {
+                if outline.is_named
+                    && let Some(column) = names.second_name(line)?
+                {
                     put_second_name(&mut told, number, column)?;
                 }
             }
@@ -82,20 +92,36 @@ fn own_troubles(alloc: Global, text: &[u8]) -> Result<String, AllocError> {
     Ok(told)
 }
 
-/// The number of the last line that is the header or a step, from 1. 0 where none is.
-fn last_told(text: &[u8]) -> u64 {
-    let mut last = 0;
-    let mut left = text;
-    for number in 1..u64::MAX {
-        let Some((line, rest)) = split_line(left) else {
-            break;
+/// What is seen of a text before its lines are gone over.
+#[derive(Clone, Copy)]
+struct Outline {
+    /// The number of the last line that is the header or a step, from 1. 0 where none is.
+    last: u64,
+    /// Whether a line gives a name to a process.
+    is_named: bool,
+}
+
+impl Outline {
+    /// That of a text.
+    fn of(text: &[u8]) -> Outline {
+        let mut outline = Outline {
+            last: 0,
+            is_named: false,
         };
-        if is_told(line) {
-            last = number;
+        let mut left = text;
+        for number in 1..u64::MAX {
+            let Some((line, rest)) = split_line(left) else {
+                break;
+            };
+            if is_told(line) {
+                outline.last = number;
+            } else if naming_in(line).is_some() {
+                outline.is_named = true;
+            }
+            left = rest;
         }
-        left = rest;
+        outline
     }
-    last
 }
 
 /// Where a line is in a schedule.
@@ -139,6 +165,9 @@ enum Trouble<'a> {
 
 /// What is wrong with the expectation of a line there, if anything.
 fn trouble_at(place: Place, line: &[u8]) -> Option<Trouble<'_>> {
+    if split_at(b'#', line).is_none() {
+        return None; // most lines have no comment
+    }
     match (place, expected_in(line)) {
         (Place::State, _) => None,
         (Place::Step, Some(expected)) if is_reply(told_in(expected)) => None,

@@ -1,14 +1,12 @@
 #![tactic(auto)]
 //! Compares the replies to the steps of a schedule with those that its text expects.
 //!
-//! After a step of a text of version 3 a comment `# = REPLY` says what it is to be answered, and after the
-//! last step `# state` and a comment `# = LINE` for each line of the state. `expect_text` reads the schedule and
-//! makes its steps (tx_script), and goes over the lines of the text once more (`judges.rt`): what a line
-//! expects is in its comment (`comments.rt`), and a reply is the expected one where the words are those of
-//! one of its spellings (`agreement.rt`). The state is compared line by line up to the first difference
-//! (`states.rt`). What is not as expected is reported (`sentences.rt`), and counted (`tallies.rt`). `check_too`
-//! tells of a text that a check finds right what is wrong with its expectations (`checks.rt`): that no reply is
-//! spelled so (`spellings.rt`), or where they are; and which process is given a second name (`naming.rt`).
+//! After a step of a text of version 3 a comment `# = REPLY` has the expected reply; after the last
+//! step `# state` and comments `# = LINE` have the state. `expect_text` makes the steps (tx_script)
+//! and goes over the lines again (`judges.rt`): a reply is the expected one where the comment has
+//! the words of one of its spellings (`agreement.rt`). States are compared up to the first
+//! difference (`states.rt`). `check_too` reports expectations that no reply meets, or in the wrong
+//! place, and second names of a process.
 
 mod agreement;
 mod checks;

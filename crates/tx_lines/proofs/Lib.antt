@@ -1,4 +1,5 @@
 pub mod Hexed
+pub mod HexLanes
 pub mod Known
 pub mod CallWords
 pub mod Digits
@@ -9,6 +10,7 @@ pub mod Leading
 pub mod LineEnds
 pub mod LineWords
 pub mod MoreWords
+pub mod Numerals
 pub mod PlainWords
 pub mod ProgramLines
 pub mod ProgramParts

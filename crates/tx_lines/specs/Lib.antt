@@ -16,5 +16,6 @@ pub mod Whole
 pub mod Words
 pub mod ListedSets
 pub mod NumberFacts
+pub mod Numerals
 pub mod SetFacts
 pub mod Refusals

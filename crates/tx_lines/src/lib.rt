@@ -1,24 +1,23 @@
 #![tactic(auto)]
-//! The lines of texts: what reads schedules, schedules with commands and programs, and what prints
-//! words, numbers, sets and steps. It knows the grammar, and nothing of a machine.
+//! The lines of texts: reads schedules, schedules with commands and programs, and prints words,
+//! numbers, sets and steps. It knows the grammar, and nothing of a machine.
 //!
-//! One table has a row for each call (`calls.rt`): its name, how it is printed, and where its
-//! numbers stand. The ends that texts come from and go to are two traits, `Source` and `Sink`,
-//! whose contracts name the bytes and count interruptions and failures; readers and writers of the
-//! standard library are one kind of end (`OverRead`, `OverWrite`), and `ends/` has the loops over
-//! them. `read/` has what reads a text: a line is read exactly when it is spelled so, and for
-//! headers, steps and numbers the contracts say it both ways. Stores, loads and the calls of
-//! transactions, which schedules have most, are told by the front of their text. Any other call
-//! goes by its first word, in groups: each group reads its own names and hands all others on to the
-//! next. Lines of all steps are read, but `sys_xbegin defer` in the second version alone. A program
-//! is read line by line (`read/program_lines.rt`) and then linked (`read/program_text.rt`): each
-//! point becomes the number that its label names. An instruction is a call and how each of its
-//! arguments is spelled. To read one, the words that stand for a slot or a label are put down and
-//! `0` is put in their places (`read/spellings.rt`); what is left is read as a call of a schedule
-//! (`read_call`), and then it is asked whether each argument may be spelled so
-//! (`read/instructions.rt`). So calls have one reader. Of an instruction, `filling.rt` makes the
-//! call that a process makes by it. `print/` has what writes words, numbers, sets and bytes, and a
-//! step as a line of a schedule.
+//! # Tables and ends
+//!
+//! `calls.rt` has a row for each call: its name, how it is printed, and where its numbers are.
+//! Texts come from a `Source` and go to a `Sink`; their contracts name the bytes, and count
+//! interruptions and failures. `OverRead` and `OverWrite` are such ends over the standard
+//! library's.
+//!
+//! # Reading
+//!
+//! The calls that schedules have most are known by the front of their text. Other calls go by their
+//! first word: each group reads its own names, and hands others on.
+//!
+//! A program is read line by line and then linked, which makes points of labels. An instruction is
+//! read as a call of a schedule (`read_call`), with `0` in place of its slots and labels
+//! (`read/spellings.rt`); then its spellings are judged. So calls have one reader. `filling.rt`
+//! makes the call that a process makes by it.
 
 mod calls;
 mod ends;
@@ -37,6 +36,7 @@ pub use instructions::{Instruction, Line, Name, Spelling};
 pub use print::bytes::put_bytes;
 pub use print::lists::put_numbers;
 pub use print::members::{dash, put_member, put_set};
+pub use print::numerals::Numeral;
 pub use print::refusals::refusal_word;
 pub use print::steps::put_step;
 pub use print::words::{put, put_byte, put_count, put_count_first, put_number};

@@ -5,6 +5,7 @@ pub mod arguments;
 pub mod bytes;
 pub mod lists;
 pub mod members;
+pub mod numerals;
 pub mod refusals;
 pub mod steps;
 pub mod words;

@@ -1,18 +1,14 @@
-//! What writes the report of a schedule, and what answers the commands of a walk.
+//! Answers schedules, and the commands that walk over them.
 //!
-//! Schedules, and commands that walk over them. `replay(alloc, source, sink)` reads a schedule from
-//! one end, makes its steps on a machine and writes the replies and the state to the other. `debug`
-//! reads a schedule with commands, makes the steps in a session, and writes what the commands
-//! answer. `report` makes the steps and prints the line of each reply, by tx_text, and the state
-//! that the last one leaves, by tx_journal. `answer_walk` makes the steps in a `Session` (`made.rt`)
-//! and goes over the commands: `walk` does what one of them says, and gives its `Response`, which is
-//! printed in a `Form`: as text (`put_response`), or as JSON (`as_json/`). What a text of a kind
-//! spells, where it is at fault and what answers it is a `Grammar` of specs: `schedules` and `walks`
-//! are two, and one definition (`Answers`) says of both what is read and written. `replay` changes a
-//! kernel only through `boot` and `step_into`, and takes no step back: each inverse is put in the
-//! place of the one before. `write_json` answers both kinds of texts by lines of JSON, and
-//! `run_lines` a run. The ends, the faults and the programs of texts are given on from tx_lines and
-//! tx_plain.
+//! `replay` reads a schedule from one end, makes its steps on a machine, and writes the replies and
+//! the state to the other. It takes no step back: each inverse replaces the one before. `debug`
+//! makes the steps in a `Session` (`made.rt`); `walk` does what a command says, and gives its
+//! `Response`, printed in a `Form`. `write_json` answers both kinds of texts by lines of JSON,
+//! `run_lines` a run.
+//!
+//! What a text of a kind spells, where it is at fault and what answers it is a `Grammar` of specs:
+//! `schedules` and `walks` are two, and one definition (`Answers`) says of both what is read and
+//! written.
 #![tactic(auto)]
 
 mod answered;

@@ -14,7 +14,7 @@ use std::alloc::{AllocError, Global};
 use tx_base::{ABORTED_BY_CALL, Reply, Step};
 use tx_core::Machine;
 use tx_journal::put_state;
-use tx_lines::{Fault, Schedule, put, put_count};
+use tx_lines::{Fault, Numeral, Schedule, put, put_number};
 use tx_live::Inverse;
 use tx_text::put_reply;
 
@@ -51,23 +51,28 @@ fn put_replies(
 {
     let mut reply = Reply::Ended;
     let mut inverse = Inverse::blank();
+    let mut number = Numeral::one(alloc);
     for i in 0..steps.len() {
         make_step(alloc, machine, &steps[i], &mut reply, &mut inverse)?;
-        put_reply_line(text, i as u64 + 1, &reply)?;
+        put_reply_line(text, &number, &reply)?;
+        number.raise()?;
     }
     Ok(())
 }
 
 /// Appends the line of the reply to a step. Steps count from 1.
-fn put_reply_line(text: &mut String, number: u64, reply: &Reply) -> Result<(), AllocError>
+fn put_reply_line(text: &mut String, number: &Numeral, reply: &Reply) -> Result<(), AllocError>
     ensures { OnOk result
-        (string_bytes text.new ≡ string_bytes text.old ++ line_text number reply.now) }
+        (string_bytes text.new ≡ string_bytes text.old ++ line_text number.now reply.now) }
 {
-    put_count(text, number)?;
+    number.append_to(text)?;
     if let Reply::Done(ret) = reply {
         if *ret == 0 {
             return put(text, " ok 0\n"); // what most steps are answered
         }
+        put(text, " ok ")?;
+        put_number(text, *ret)?;
+        return put(text, "\n");
     }
     if let Reply::Aborted(status) = reply {
         if *status == ABORTED_BY_CALL {

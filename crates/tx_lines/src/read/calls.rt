@@ -1,5 +1,5 @@
 //! The calls of a schedule's lines, by groups.
-ghost use Rattle.std.specs.Prelude.{◌≡◌, ◌≤◌, IfSome, Some};
+ghost use Rattle.std.specs.Prelude.{◌≡◌, ◌≤◌, ◌++◌, IfSome, Some, codes};
 ghost use Rattle.std.specs.Bool.{then_some};
 ghost use Rattle.tx_base.specs.declared.steps.Call.{Call};
 ghost use Rattle.tx_lines.specs.Calls.{call_text, group_of, FitsCall};
@@ -21,6 +21,7 @@ use crate::read::calls::place::put;
 use crate::read::calls::transactions::transaction_call;
 use crate::read::header::Version;
 use crate::read::numbers::number;
+use crate::read::small::read_pid;
 use crate::read::split::{after_front, split_word};
 use tx_base::Call;
 
@@ -44,9 +45,134 @@ pub fn read_call(version: Version, text: &[u8], call: &mut Call) -> bool
     named_call(version, text, call)
 }
 
-/// As `read_call`, where the call is none of those that are told by the front of their text.
+/// As `read_call`, where the call is none of those. More calls that many schedules have are told by their
+/// fronts, the shorter names first; any other call is told by its first word.
 #[inline(always)] // `read_call` alone calls it; a call of its own costs 24
 fn named_call(version: Version, text: &[u8], call: &mut Call) -> bool
+    ensures found { IfSome (then_some result call.new) (SpellsCall version text.now) }
+    ensures only { (c : Call) → FitsCall c → IsCallOf version c → 1 ≤ group_of c →
+        text.now ≡ call_text c → then_some result call.new ≡ Some c }
+{
+    match text {
+        [b'd', b'u', b'p', b' ', fd @ ..] => put(call, number(fd).map(Call::Dup)),
+        [b'm', b'a', b'p', b' ', page @ ..] => put(call, number(page).map(Call::Map)),
+        _ => call_of_four(version, text, call),
+    }
+}
+
+/// As `named_call`, where the name has four letters or more.
+#[inline(always)] // as `named_call`
+fn call_of_four(version: Version, text: &[u8], call: &mut Call) -> bool
+    ensures found { IfSome (then_some result call.new) (SpellsCall version text.now) }
+    ensures only { (c : Call) → FitsCall c → IsCallOf version c → 1 ≤ group_of c →
+        text.now ≡ call_text c → then_some result call.new ≡ Some c }
+{
+    match text {
+        [b'e', b'x', b'i', b't', b' ', status @ ..] => put(call, number(status).map(Call::Exit)),
+        [b'f', b'o', b'r', b'k', b' ', child @ ..] => put(call, read_pid(child).map(Call::Fork)),
+        [b'k', b'i', b'l', b'l', b' ', arguments @ ..] => put(call, signals::kill(arguments)),
+        [b'r', b'e', b'a', b'd', b' ', arguments @ ..] => put(call, transfers::read(arguments)),
+        _ => call_of_five(version, text, call),
+    }
+}
+
+/// As `named_call`, where the name has five letters or more.
+#[inline(always)] // as `named_call`
+fn call_of_five(version: Version, text: &[u8], call: &mut Call) -> bool
+    ensures found { IfSome (then_some result call.new) (SpellsCall version text.now) }
+    ensures only { (c : Call) → FitsCall c → IsCallOf version c → 1 ≤ group_of c →
+        text.now ≡ call_text c → then_some result call.new ≡ Some c }
+{
+    match text {
+        [b'c', b'l', b'o', b's', b'e', b' ', fd @ ..] => put(call, number(fd).map(Call::Close)),
+        [b'u', b'n', b'm', b'a', b'p', b' ', page @ ..] => put(call, number(page).map(Call::Unmap)),
+        [b'w', b'r', b'i', b't', b'e', b' ', arguments @ ..] => {
+            put(call, transfers::write(arguments))
+        }
+        _ => call_of_six(version, text, call),
+    }
+}
+
+/// As `named_call`, where the name has six letters or more.
+#[inline(always)] // as `named_call`
+fn call_of_six(version: Version, text: &[u8], call: &mut Call) -> bool
+    ensures found { IfSome (then_some result call.new) (SpellsCall version text.now) }
+    ensures only { (c : Call) → FitsCall c → IsCallOf version c → 1 ≤ group_of c →
+        text.now ≡ call_text c → then_some result call.new ≡ Some c }
+{
+    match text {
+        b"getpid" => put(call, Some(Call::Getpid)),
+        _ => longer_call(version, text, call),
+    }
+}
+
+/// As `named_call`, where the name has six letters or more and is another one.
+#[inline(never)] // inlined, it would take registers from the calls before it
+fn longer_call(version: Version, text: &[u8], call: &mut Call) -> bool
+    ensures found { IfSome (then_some result call.new) (SpellsCall version text.now) }
+    ensures only { (c : Call) → FitsCall c → IsCallOf version c → 1 ≤ group_of c →
+        text.now ≡ call_text c → then_some result call.new ≡ Some c }
+{
+    match text {
+        [
+            b'w',
+            b'a',
+            b'i',
+            b't',
+            b'p',
+            b'i',
+            b'd',
+            b' ',
+            arguments @ ..,
+        ] => { put(call, processes::waitpid(arguments)) }
+        _ => longest_call(version, text, call),
+    }
+}
+
+/// As `named_call`, where the name has nine letters or more.
+#[inline(always)] // `longer_call` alone calls it
+fn longest_call(version: Version, text: &[u8], call: &mut Call) -> bool
+    ensures found { IfSome (then_some result call.new) (SpellsCall version text.now) }
+    ensures only { (c : Call) → FitsCall c → IsCallOf version c → 1 ≤ group_of c →
+        text.now ≡ call_text c → then_some result call.new ≡ Some c }
+{
+    if let Some(arguments) = after_sigaction(text) {
+        return put(call, signals::sigaction(arguments));
+    }
+    if let Some(arguments) = after_console_write(text) {
+        return put(call, script::console_write(arguments));
+    }
+    other_call(version, text, call)
+}
+
+/// The arguments of a `sigaction`, where the text begins as one. In two parts: each is compared at once.
+fn after_sigaction(text: &[u8]) -> Option<&[u8]>
+    ensures { IfSome result (λ rest. text.now ≡ codes "sigaction " ++ rest.now) }
+{
+    let [b's', b'i', b'g', b'a', b'c', rest @ ..] = text else {
+        return None;
+    };
+    match rest {
+        [b't', b'i', b'o', b'n', b' ', arguments @ ..] => Some(arguments),
+        _ => None,
+    }
+}
+
+/// The arguments of a `console_write`, where the text begins as one. In two parts, as `after_sigaction`.
+fn after_console_write(text: &[u8]) -> Option<&[u8]>
+    ensures { IfSome result (λ rest. text.now ≡ codes "console_write " ++ rest.now) }
+{
+    let [b'c', b'o', b'n', b's', b'o', b'l', b'e', b'_', rest @ ..] = text else {
+        return None;
+    };
+    match rest {
+        [b'w', b'r', b'i', b't', b'e', b' ', arguments @ ..] => Some(arguments),
+        _ => None,
+    }
+}
+
+/// As `named_call`, by the first word alone.
+fn other_call(version: Version, text: &[u8], call: &mut Call) -> bool
     ensures found { IfSome (then_some result call.new) (SpellsCall version text.now) }
     ensures only { (c : Call) → FitsCall c → IsCallOf version c → 1 ≤ group_of c →
         text.now ≡ call_text c → then_some result call.new ≡ Some c }

@@ -23,17 +23,17 @@ returns-then-ret-eq0 c =
     let fits : FitsSigned w64 c.in-Done.ret = search rules in
     let none : c.in-Done.ret ≡ pos 0 = sym (to_z-of_z w64 c.in-Done.ret fits) ∙ ap (to_z w64) c.if-ret-eq0.true in
     let spelled : signed_decimal c.in-Done.ret ≡ 48 ∷ [] = ap signed_decimal none ∙ decimal_digit 0 (omega arith) in
-    let line : line_text c.args.number c.args.reply.now ≡ decimal c.args.number ++ codes " ok 0\n" =
-    ap (line_text c.args.number) c.in-Done.is ∙ ap (λ (digits : List ℕ). decimal c.args.number ++ 32 ∷ ((codes "ok " ++ digits) ++ 10 ∷ [])) spelled in
+    let line : line_text c.args.number.now c.args.reply.now ≡ decimal c.args.number.now ++ codes " ok 0\n" =
+    ap (line_text c.args.number.now) c.in-Done.is ∙ ap (λ (digits : List ℕ). decimal c.args.number.now ++ 32 ∷ ((codes "ok " ++ digits) ++ 10 ∷ [])) spelled in
     subst (λ (bytes : List ℕ). OnOk c.put.result (string_bytes c.put.new.text ≡ bytes))
-    (line_behind (string_bytes c.args.text.now) (string_bytes c.put_count.new.text) (decimal c.args.number) (codes " ok 0\n") (line_text c.args.number c.args.reply.now) c.in_ok-put_count.ensures line)
+    (line_behind (string_bytes c.args.text.now) (string_bytes c.append_to.new.text) (decimal c.args.number.now) (codes " ok 0\n") (line_text c.args.number.now c.args.reply.now) c.in_ok-append_to.ensures line)
     c.put.ensures
 
 pub returns-then-status-eq-ABORTED_BY_CALL : goal.returns-then-status-eq-ABORTED_BY_CALL
 returns-then-status-eq-ABORTED_BY_CALL c =
     let spelled : decimal c.in-Aborted.status ≡ codes "201" = ap decimal c.if-status-eq-ABORTED_BY_CALL.true ∙ called_off in
-    let line : line_text c.args.number c.args.reply.now ≡ decimal c.args.number ++ codes " aborted 201\n" =
-    ap (line_text c.args.number) c.in-Aborted.is ∙ ap (λ (digits : List ℕ). decimal c.args.number ++ 32 ∷ ((codes "aborted " ++ digits) ++ 10 ∷ [])) spelled in
+    let line : line_text c.args.number.now c.args.reply.now ≡ decimal c.args.number.now ++ codes " aborted 201\n" =
+    ap (line_text c.args.number.now) c.in-Aborted.is ∙ ap (λ (digits : List ℕ). decimal c.args.number.now ++ 32 ∷ ((codes "aborted " ++ digits) ++ 10 ∷ [])) spelled in
     subst (λ (bytes : List ℕ). OnOk c.put-then-status-eq-ABORTED_BY_CALL.result (string_bytes c.put-then-status-eq-ABORTED_BY_CALL.new.text ≡ bytes))
-    (line_behind (string_bytes c.args.text.now) (string_bytes c.put_count.new.text) (decimal c.args.number) (codes " aborted 201\n") (line_text c.args.number c.args.reply.now) c.in_ok-put_count.ensures line)
+    (line_behind (string_bytes c.args.text.now) (string_bytes c.append_to.new.text) (decimal c.args.number.now) (codes " aborted 201\n") (line_text c.args.number.now c.args.reply.now) c.in_ok-append_to.ensures line)
     c.put-then-status-eq-ABORTED_BY_CALL.ensures

@@ -2,7 +2,7 @@ use Rattle.std.proofs.Common.{◌≡◌, ◌∙◌, ◌∷◌, ◌++◌, sym}
 use Rattle.std.specs.Bool.{then_some}
 use Rattle.std.proofs.lemmas.Option.{IfSome_then}
 use Rattle.tx_lines.proofs.FirstWord.{split_parts}
-use Rattle.tx_lines.proofs.read.calls.named_call.Goals as goal
+use Rattle.tx_lines.proofs.read.calls.other_call.Goals as goal
 
 pub returns-in-Some-clause-found : goal.returns-in-Some-clause-found
 returns-in-Some-clause-found c =
