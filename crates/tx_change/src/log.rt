@@ -15,6 +15,9 @@ use std::marker::Model;
 use tx_base::{NoMemory, Pid};
 use tx_proc::Answer;
 
+/// How many places a list gets at first: few steps change more than two parts and their answer.
+const FIRST_PLACES: usize = 2;
+
 /// Old parts, the oldest first. Led back, it gives the parts before the oldest was kept.
 #[derive(Drop)]
 pub struct Log {
@@ -70,7 +73,7 @@ impl Log {
         Ok(())
     }
 
-    /// Appends a new part, which is to be exchanged. After want of memory the log is as it was.
+    /// Appends a new part, still to be exchanged. After want of memory the log is as it was.
     #[inline(always)] // a change is large, and would be copied once more
     pub fn push(&mut self, change: Change) -> Result<(), NoMemory>
         ensures ok { OnOk result (self.new ≡ self.old ++ change ∷ []) }
@@ -83,7 +86,7 @@ impl Log {
         self.push_settled(change)
     }
 
-    /// Appends a new answer of a process, which is to be exchanged. After want of memory the log is as
+    /// Appends a new answer of a process, still to be exchanged. After want of memory the log is as
     /// it was.
     pub fn push_answer(&mut self, pid: Pid, answer: Answer) -> Result<(), NoMemory>
         ensures ok { OnOk result (self.new ≡ self.old ++ SetPart pid (SetAnswer answer) ∷ []) }
@@ -105,12 +108,15 @@ impl Log {
         ensures err { OnErr result (self.new ≡ self.old) }
     {
         settle(&mut self.changes, &mut self.answer)?;
+        if self.changes.capacity() == 0 {
+            self.changes = Vec::with_capacity(*self.changes.allocator(), FIRST_PLACES)?;
+        }
         self.changes.push(change)?;
         Ok(())
     }
 
-    /// Moves the answer that is apart to the list, so that a step which follows finds room for its own.
-    /// After want of memory all is as it was.
+    /// Moves the answer that is apart to the list, so that a later step has room for its own. After
+    /// want of memory all is as it was.
     pub fn settle(&mut self) -> Result<(), NoMemory>
         ensures { self.new ≡ self.old }
     {

@@ -41,13 +41,15 @@ fn shown(parts: &Parts, number: u16) -> Option<(u32, i64, Option<u16>)> {
 #[test]
 fn a_call_is_made_and_led_back(rt: HostRuntime) -> Result<(), Fail> {
     let mut parts = booted(rt.alloc())?;
-    let mut log = Log::with_room(rt.alloc(), 0)?;
+    let mut log = Log::new(rt.alloc());
     let call = Call::Setuid(7);
     let Ok(planned) = act(rt.alloc(), &mut parts, Pid(2), &call, None, &mut log) else {
         panic!(rt; "a call of a process that runs is made");
     };
     assert!(rt; matches!(planned.outcome, Outcome::Done(0)));
-    assert!(rt; shown(&parts, 2) == Some((1, 0, None)));
+    assert!(rt; shown(&parts, 2) == Some((1, 0, None)) && log.len() == 2);
+    log.settle()?;
+    assert!(rt; log.len() == 2);
     log.lead_back(&mut parts);
     assert!(rt; shown(&parts, 2) == Some((0, 0, None)));
     Ok(())
@@ -58,9 +60,7 @@ fn make(rt: &impl Abort, alloc: Global, parts: &mut Parts, call: &Call)
     requires { IsWhole parts.old }
     ensures { IsWhole parts.new }
 {
-    let Ok(mut log) = Log::with_room(alloc, 0) else {
-        panic!(rt; "there is memory");
-    };
+    let mut log = Log::new(alloc);
     let Ok(_planned) = act(alloc, parts, Pid(2), call, None, &mut log) else {
         panic!(rt; "a call of a process that runs is made");
     };
@@ -80,7 +80,7 @@ fn a_signal_is_posted_and_delivered(rt: HostRuntime) -> Result<(), Fail> {
     let mut parts = booted(rt.alloc())?;
     let posted = post(&mut parts, &sent(10));
     assert!(rt; posted.answer == Ok(()) && posted.change.is_some());
-    let mut log = Log::with_room(rt.alloc(), 0)?;
+    let mut log = Log::new(rt.alloc());
     let Ok(planned) = deliver(rt.alloc(), &mut parts, Pid(2), Signo(10), None, &mut log) else {
         panic!(rt; "a pending signal is delivered");
     };
@@ -145,7 +145,7 @@ fn plan_both(rt: &impl Abort, alloc: Global, parts: &Parts, log: &mut Log)
 #[test]
 fn plans_of_steps_change_nothing(rt: HostRuntime) -> Result<(), Fail> {
     let parts = booted(rt.alloc())?;
-    let mut log = Log::with_room(rt.alloc(), 0)?;
+    let mut log = Log::new(rt.alloc());
     plan_both(&rt, rt.alloc(), &parts, &mut log);
     assert!(rt; shown(&parts, 2) == Some((0, 0, None)) && log.len() == 1);
     Ok(())

@@ -17,10 +17,12 @@ fn pages_are_mapped_and_written(rt: HostRuntime) -> Result<(), Fail> {
     let mut bytes = [9; 4];
     space.take(61, &mut bytes)?;
     assert!(rt; bytes == [0, 1, 2, 3]);
+    assert!(rt; space.part(61, 9) == [0, 1, 2].as_slice());
     space.protect(0, false)?;
     assert!(rt; space.is_good(Access::Read, 0, 128) && !space.is_good(Access::Write, 63, 2));
     space.unmap(1)?;
     assert!(rt; byte(&space, 63) == Some(2) && byte(&space, 64).is_none());
+    assert!(rt; space.part(64, 2) == [0, 0].as_slice());
     Ok(())
 }
 

@@ -68,5 +68,5 @@ fn first_and_last_slots_are_kept_apart(rt: HostRuntime) -> Result<(), Fail> {
 #[test]
 fn changes_and_inverses_are_small(rt: HostRuntime) {
     assert!(rt; mem::size_of::<Change>() <= 56);
-    assert!(rt; mem::size_of::<Inverse>() <= 72);
+    assert!(rt; mem::size_of::<Inverse>() <= 96);
 }
