@@ -1,4 +1,4 @@
--- How a fault is told.
+-- How a fault is reported.
 use Rattle.std.specs.Prelude.{◌≡◌, ◌≢◌, ℕ, List, ◌++◌, codes, string_bytes}
 use Rattle.std.specs.Fmt.{decimal}
 use Rattle.tx_lines.specs.declared.faults.Fault.{Fault}
@@ -15,7 +15,8 @@ fault_text faults.Reader = codes "F4"
 fault_text faults.Writer = codes "F5"
 fault_text faults.NoMemory = codes "F6"
 
--- a fault is told by its words; that memory was refused is told by the status alone, also where the words want some
+-- a fault is reported by its words; that memory was refused only by the status, also where the
+-- words want some
 abbrev pub TellsFault : Fault → Answer → Type 0
 TellsFault fault (Read text) = ⊥
 TellsFault fault (Unread text) = (fault ≢ faults.NoMemory) × (string_bytes text ≡ fault_text fault)

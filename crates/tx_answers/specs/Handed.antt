@@ -19,8 +19,8 @@ bytes_of (Read text) = string_bytes text
 bytes_of (Unread text) = string_bytes text
 bytes_of NoMemory = []
 
--- an answer is handed out: its size is said; its bytes stand at the front of a buffer that has room for all of them, which has behind them what
--- stood there; and a buffer without the room is as it was
+-- an answer is handed out: its size is given; its bytes are at the front of a buffer that has room
+-- for all of them, and the rest of the buffer is as it was; a buffer without the room is as it was
 pub record HandsOut (answer : Answer) (old : List ℕ) (status : ℤ) (new : List ℕ) (size : ℕ) : Type 0 where
   pub said : size ≡ length (bytes_of answer)
   pub whole : length (bytes_of answer) ≤ length old →

@@ -1,4 +1,4 @@
--- What the lines of a text are answered in a talk.
+-- What the lines of a text are answered in a session.
 use Rattle.std.specs.Prelude.{ℕ, ℤ, pos, negsuc, zero, suc, List, [], Ok, Some, string_bytes}
 use Rattle.tx_shell.specs.Events.{Event, IsTalk}
 use Rattle.tx_shell.specs.Standings.{first_standing, Standing}
@@ -13,7 +13,7 @@ form_of (pos zero) = forms.Text
 form_of (pos (suc number)) = forms.Json
 form_of (negsuc number) = forms.Json
 
--- a whole talk of that form, whose lines are those of the text, and in which that is shown
+-- a whole session of that form, whose lines are those of the text, and in which that is shown
 pub record IsTalkOf (form : Form) (text told : List ℕ) : Type 0 where
   pub events : List Event
   pub left : List ℕ

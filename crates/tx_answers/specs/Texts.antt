@@ -25,7 +25,7 @@ IsAnswered G text (Read answer) = (length text ≤ 1048576) × AnswersText G tex
 IsAnswered G text (Unread words) = (fault : Fault) × IsFaultIn G text fault × TellsFault fault (Unread words)
 IsAnswered G text NoMemory = Unit {0}
 
--- what a check tells of a text: nothing where it can be read, and else what is wrong with it
+-- what a check reports of a text: nothing where it can be read, else what is wrong with it
 abbrev pub IsChecked : List ℕ → Answer → Type 0
 IsChecked text (Read told) = (length text ≤ 1048576) × (string_bytes told ≡ []) × IsToldOf text (string_bytes told)
 IsChecked text (Unread told) = (IsTooLong text × TellsFault (TooLong 0) (Unread told))

@@ -1,4 +1,4 @@
-//! How a fault is told.
+//! How a fault is reported.
 ghost use Rattle.std.specs.Prelude.{◌≡◌, ◌++◌, IfOk, OnOk, string_bytes};
 ghost use Rattle.std.specs.Fmt.{decimal};
 ghost use Rattle.tx_answers.specs.Faults.{fault_text, TellsFault};
@@ -43,7 +43,7 @@ fn word_with(alloc: Global, word: &str, line: u64) -> Result<String, AllocError>
     Ok(text)
 }
 
-/// A word alone.
+/// A word on its own.
 fn word(alloc: Global, word: &str) -> Result<String, AllocError>
     ensures { IfOk result (λ text. string_bytes text ≡ word.now) }
 {

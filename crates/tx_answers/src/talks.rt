@@ -1,4 +1,4 @@
-//! What the lines of a talk are answered, where all of them are there.
+//! What the lines of a session are answered, where all of them are there.
 ghost use Rattle.std.specs.Prelude.{◌≡◌, IfOk, string_bytes};
 ghost use Rattle.tx_plain.specs.MeantLines.{behind};
 ghost use Rattle.tx_shell.specs.Cuts.{front_line};
@@ -12,7 +12,7 @@ use tx_plain::Room;
 use tx_script::Form;
 use tx_shell::Shell;
 
-/// How many bytes of a line are looked at, as at a terminal: a longer line is told of as too long.
+/// How many bytes of a line are looked at, as at a terminal: a longer line is reported as too long.
 const LINE_MOST: usize = LINE_BYTES + 2;
 
 /// The form that a number from C names: 0 is text, and any other JSON.
@@ -33,7 +33,7 @@ pub fn talked(alloc: Global, form: Form, text: &[u8]) -> Answer
 }
 
 /// Answers each line of a text, up to the end of the text or a line that asks for the end of the
-/// talk.
+/// session.
 ///
 /// NoMemory where a growth is refused.
 fn talk_over(alloc: Global, form: Form, text: &[u8]) -> Result<String, NoMemory>
@@ -55,7 +55,7 @@ fn talk_over(alloc: Global, form: Form, text: &[u8]) -> Result<String, NoMemory>
     Ok(told)
 }
 
-/// The first line of a text, or the front of a long one, and what stands behind the line's end.
+/// The first line of a text, or the front of a long one, and what follows the line's end.
 fn cut(text: &[u8]) -> (&[u8], &[u8])
     ensures line { result.0.now ≡ front_line text.now }
     ensures behind { result.1.now ≡ behind text.now }

@@ -1,4 +1,4 @@
--- What a table of slots ends as, where a `&mut` to one of its values is returned.
+-- What a table of slots is in the end, where a `&mut` to one of its values is returned.
 use Rattle.std.specs.Prelude.{ℕ, List, Option, Some}
 use Rattle.std.specs.Borrow.{Lends, Fml, RattleType, MutBor}
 use Rattle.tx_base.specs.Slots.{with_slot}

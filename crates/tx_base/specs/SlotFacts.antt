@@ -1,5 +1,5 @@
--- Facts of slots: of one that is replaced, of the others, and of one that has something. They follow
--- from the definitions and are proved here, so nobody has to believe them.
+-- Facts of slots: of one that is replaced, of the others, and of one that has something. They are
+-- proved here, so nobody has to believe them.
 use Rattle.std.proofs.Common.{◌≡◌, ◌≢◌, ℕ, zero, suc, ◌-◌, ◌<◌, ◌≤◌, List, [], ◌∷◌, Option, Some, None, length, if◌then◌else◌, ◌==◌, arith, refl, ap, ◌∙◌, inl, inr, eq-eqb, eqb-true}
 use Rattle.std.proofs.lemmas.Bool.{both_ways, cases_Bool}
 use Rattle.std.proofs.lemmas.List.{set-set, set-get_or, get_or-set_same, get_or-set_other, length-set}
@@ -42,7 +42,7 @@ slot_in [] n x h = cc
 slot_in (y ∷ slots) zero x h = omega arith
 slot_in (y ∷ slots) (suc n) x h = let z = slot_in slots n x h in omega arith
 
--- a number whose slot has something is one that there is
+-- a number whose slot has something is valid
 pub slot_there : {A : Type 0} (slots : List (Option A)) (n : ℕ) (x : A) → slot_at slots n ≡ Some x → (1 ≤ n) × (n ≤ length slots)
 slot_there slots zero x h = cc
 slot_there slots (suc n) x h = let z = slot_in slots n x h in (omega arith, omega arith)

@@ -1,10 +1,8 @@
 //! Names, limits and plain types of the kernel, shared by every crate above.
 //!
-//! `Pid`, `Signo`, `DescNo`, `PipeNo`, `Regs`, `Sending`, `Errno`, `NoMemory`; `SigSet`, `Action`,
-//! `How`; `Call`, `Step`, `Reply`, `Refusal` and `Accepted` (a step with its reply, which is what a
-//! history holds); `Mark` (what a process number is to the live transactions); the limits. These
-//! types are the ones that the definitions speak of, so there is no second form of a call or a
-//! reply to keep in step.
+//! The definitions use these types, so there is no second form of a call or a reply to keep in
+//! step. `Accepted` is a step with its reply, which is what a history holds; `Mark` is what a
+//! process number is to the live transactions.
 //!
 //! `Slots` is a table with a place for each process number of a narrow or wide machine. Its room is
 //! taken when it is made. `get` reads a slot, `swap` exchanges one, without memory and without an

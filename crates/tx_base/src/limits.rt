@@ -36,7 +36,7 @@ pub const CONSOLE_BYTES: usize = 64;
 /// How many slots a process has beside its answer: numbers 0 to 7.
 pub const SLOTS: usize = 8;
 
-/// How many signal numbers there are: 0 to 39. Not each is a signal.
+/// How many signal numbers there are: 0 to 39. Not each of them is a signal.
 pub const SIGNALS: usize = 40;
 
 /// How many caught signals of a process may be unfinished.

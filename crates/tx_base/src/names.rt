@@ -17,7 +17,7 @@ pub struct DescNo(pub u8);
 #[derive(Clone, Copy, PartialEq, Eq, Default)]
 pub struct PipeNo(pub u8);
 
-/// Where a process stands in its script, the answer of its last call, and its eight slots.
+/// Where a process is in its script, the answer of its last call, and its eight slots.
 #[derive(Clone, Copy)]
 pub struct Regs {
     /// The next instruction: 0 to 65,535.

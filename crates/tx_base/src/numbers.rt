@@ -2,7 +2,7 @@
 ghost use Rattle.std.specs.Prelude.{◌≡◌, ◌<◌, ◌^◌};
 ghost use Rattle.tx_base.specs.Numbers.{below};
 
-/// A number that a program computed, where it is 0 or more and lies below the limit.
+/// A number that a program computed, where it is 0 or more and below the limit.
 pub fn number_below(limit: usize, number: i64) -> Option<usize>
     requires { limit < 2 ^ 32 }
     ensures { result ≡ below limit number }

@@ -4,13 +4,13 @@ ghost use Rattle.std.specs.Prelude.{⊤, [], ◌∷◌, codes};
 use crate::names::Signo;
 use bitflags::{Flag, Flags, bitflag_items};
 
-/// The signal that ends its process whatever that does about it. Own numbers, those of Linux.
+/// The signal that ends its process whatever its action is. Own numbers, those of Linux.
 pub const SIGKILL: Signo = Signo(9);
 
 /// The signal of a write to a pipe that nobody reads.
 pub const SIGPIPE: Signo = Signo(13);
 
-/// The signal that tells a parent of a child's end.
+/// The signal that notifies a parent of a child's end.
 pub const SIGCHLD: Signo = Signo(17);
 
 /// A set of signals: the bit of signal n is 2 to the power of n (POSIX.1-2017, XBD, signal.h,

@@ -46,7 +46,7 @@ impl<T: Drop> Slots<T> {
         self.slots.len()
     }
 
-    /// What stands in the slot of a number; nothing where there is no such slot.
+    /// What is in the slot of a number; nothing where there is no such slot.
     pub fn get(&self, pid: Pid) -> Option<&T>
         ensures { option_copied result ≡ slot_at self.now pid.0 }
     {
@@ -56,7 +56,7 @@ impl<T: Drop> Slots<T> {
         self.slots[pid.0 as usize - 1].as_ref()
     }
 
-    /// What stands in the slot of a number, to be changed where it stands. The slot must not be empty.
+    /// What is in the slot of a number, to be changed in place. The slot must not be empty.
     pub fn value_mut(&mut self, pid: Pid) -> &mut T
         requires { IsSome (slot_at self.old pid.0) }
         ensures* writes_back { sem 𝓛 (lends_slot T.row self.entry pid.0 result) }
@@ -65,7 +65,7 @@ impl<T: Drop> Slots<T> {
         self.slots[pid.0 as usize - 1].as_mut().unwrap()
     }
 
-    /// Exchanges what stands in the slot of a number.
+    /// Exchanges what is in the slot of a number.
     pub fn swap(&mut self, pid: Pid, slot: &mut Option<T>)
         requires low { 1 ≤ pid.0 }
         requires high { pid.0 ≤ length self.old }
@@ -75,7 +75,7 @@ impl<T: Drop> Slots<T> {
         mem::swap(&mut self.slots[pid.0 as usize - 1], slot);
     }
 
-    /// Takes out what stands in the slot of a number, and leaves the slot empty.
+    /// Takes out what is in the slot of a number, and leaves the slot empty.
     pub fn take(&mut self, pid: Pid) -> Option<T>
         requires low { 1 ≤ pid.0 }
         requires high { pid.0 ≤ length self.old }
@@ -85,7 +85,7 @@ impl<T: Drop> Slots<T> {
         self.slots[pid.0 as usize - 1].take()
     }
 
-    /// Puts a value into the slot of a number, in place of what stands there.
+    /// Puts a value into the slot of a number, in place of what is there.
     pub fn put(&mut self, pid: Pid, value: T)
         requires low { 1 ≤ pid.0 }
         requires high { pid.0 ≤ length self.old }

@@ -22,7 +22,7 @@ pub enum Call {
     Map(i64),
     /// Takes a page out. Own rule.
     Unmap(i64),
-    /// Says whether a page may be written. Own rule.
+    /// Sets whether a page may be written. Own rule.
     Protect(i64, bool),
     /// Stores bytes from an address on. Own rule.
     Store(i64, ArrayVec<u8, 64>),
@@ -56,7 +56,7 @@ pub enum Call {
     Dup2(i64, i64),
     /// Closes a descriptor (XSH, `close()`).
     Close(i64),
-    /// Says whether reads and writes are refused where they would wait (XSH, `fcntl()`,
+    /// Sets whether reads and writes are refused where they would wait (XSH, `fcntl()`,
     /// O_NONBLOCK).
     SetNonblock(i64, bool),
     /// Reads from a descriptor to an address up to so many bytes (XSH, `read()`).
@@ -67,7 +67,7 @@ pub enum Call {
     Kill(i64, i64),
     /// Sends the process a signal with a value (XSH, `sigqueue()`).
     Sigqueue(i64, i64, i64),
-    /// Says what is done about a signal (XSH, `sigaction()`).
+    /// Sets what is done about a signal (XSH, `sigaction()`).
     Sigaction(i64, Action),
     /// Changes the mask (XSH, `sigprocmask()`).
     Sigprocmask(How, SigSet),
@@ -126,7 +126,7 @@ pub enum Refusal {
     Busy { starter: Pid },
     /// N9: a read, a write or a waitpid that waits.
     Wait,
-    /// N10: the signal is not pending, is blocked, or has to let a lower realtime signal go first.
+    /// N10: the signal is not pending, is blocked, or must let a lower realtime signal go first.
     NotDeliverable,
     /// N11: a caught delivery with four frames in use.
     FramesFull,

@@ -1,4 +1,4 @@
--- An answer apart from other changes.
+-- An answer apart from the other changes.
 use Rattle.std.specs.Prelude.{List, [], ◌∷◌, Option, Some, None}
 use Rattle.tx_change.specs.declared.answered.Answered.{Answered}
 use Rattle.tx_change.specs.declared.change.Change.{Change}

@@ -1,5 +1,5 @@
--- A fact of the children in the state that parts mean. It follows from the definitions and is proved
--- here, so nobody has to believe it.
+-- A fact of the children in the state that parts mean. It is proved here, so nobody has to believe
+-- it.
 use Rattle.std.proofs.Common.{◌≡◌, ℕ, zero, suc, List, [], refl}
 use Rattle.tx_change.specs.States.{state_of}
 use Rattle.tx_change.specs.declared.parts.Parts.{Parts}

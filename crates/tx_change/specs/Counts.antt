@@ -72,7 +72,7 @@ abbrev pub CountsRemoved : Type 0
 CountsRemoved = (parts : Parts) (n : ℕ) (ended : Proc) → IsPid (sizes_of parts) n → CountsAgree parts →
     slot_at parts.procs n ≡ Some ended → IsSome ended.status → CountsAgree (with_names n None parts.descs parts)
 
--- the change is of no process's whole, of no descriptor, of no status and of no description
+-- the change is not of a whole process, a descriptor, a status or a description
 abbrev pub IsNameless : Change → Type 0
 IsNameless (Part pid (Status status)) = ⊥
 IsNameless (Part pid (Descriptor number name)) = ⊥
@@ -80,7 +80,7 @@ IsNameless (Part pid part) = Unit {0}
 IsNameless (Pipe number part) = Unit {0}
 IsNameless change = ⊥
 
--- a change that is of nothing which names or is named keeps the counts
+-- a change of nothing that names or is named keeps the counts
 abbrev pub CountsElsewhere : Type 0
 CountsElsewhere = (parts : Parts) (change : Change) → IsNamed parts change → IsNameless change → CountsAgree parts → CountsAgree (parts_after parts change)
 
@@ -105,7 +105,7 @@ descs_after (Part pid part ∷ changes) descs = descs_after changes descs
 descs_after (Description number opened ∷ changes) descs = descs_after changes (slice_set descs number.0 opened)
 descs_after (Pipe number part ∷ changes) descs = descs_after changes descs
 
--- of no other process than n the change is of its whole, its status or a descriptor
+-- the change is not of the whole, the status or a descriptor of a process other than n
 abbrev pub IsNamesOf : ℕ → Change → Type 0
 IsNamesOf n (Slot pid slot) = pid.0 ≡ n
 IsNamesOf n (Part pid (Status status)) = pid.0 ≡ n
@@ -116,7 +116,7 @@ abbrev pub AreNamesOf : ℕ → List Change → Type 0
 AreNamesOf n [] = Unit {0}
 AreNamesOf n (change ∷ changes) = IsNamesOf n change × AreNamesOf n changes
 
--- what a number has after changes is said by the changes of it
+-- what a number has after changes follows from the changes of it
 abbrev pub SlotInTurn : Type 0
 SlotInTurn = (parts : Parts) (changes : List Change) (n : ℕ) → AreNamed parts changes →
     slot_at (applied parts changes).procs n ≡ slot_after n changes (slot_at parts.procs n)
@@ -140,7 +140,7 @@ abbrev pub desc_changes : List NewDesc → List Change
 desc_changes [] = []
 desc_changes (new ∷ news) = Description new.number new.opened ∷ desc_changes news
 
--- they name numbers that there are, and names of that process alone
+-- they name valid numbers, and only names of that process
 abbrev pub PlansAreNamed : Type 0
 PlansAreNamed = (parts : Parts) (pid : Pid) (names : List NewName) (descs : List NewDesc) → IsPid (sizes_of parts) pid.0 → length parts.descs ≡ 64 →
     AreFds names → AreNumbers descs →
@@ -156,7 +156,7 @@ PlansInTurn = (pid : Pid) (names : List NewName) (descs : List NewDesc) (changes
     (slot_after pid.0 (name_changes pid names ++ desc_changes descs ++ changes) slot ≡ slot_after pid.0 changes (option_map (with_put names) slot))
     × (descs_after (name_changes pid names ++ desc_changes descs ++ changes) before ≡ descs_after changes (put_descs descs before))
 
--- the changes are of nothing which names or is named
+-- the changes are of nothing that names or is named
 abbrev pub AreNameless : List Change → Type 0
 AreNameless [] = Unit {0}
 AreNameless (change ∷ changes) = IsNameless change × AreNameless changes
@@ -186,6 +186,6 @@ abbrev pub RoomForNames : Type 0
 RoomForNames = (parts : Parts) (n : ℕ) (table : Descriptors) → IsPid (sizes_of parts) n → CountsAgree parts → HaveAllPlaces parts → length parts.procs ≤ 256 →
     RunsAt parts n table → IsBacked 16 table parts.descs
 
--- changes that are of nothing which names or is named keep the counts
+-- changes of nothing that names or is named keep the counts
 abbrev pub CountsNameless : Type 0
 CountsNameless = (parts : Parts) (changes : List Change) → AreNamed parts changes → AreNameless changes → CountsAgree parts → CountsAgree (applied parts changes)

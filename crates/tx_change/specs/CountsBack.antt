@@ -20,7 +20,7 @@ counting (Some proc) = Some (proc.status, proc.descriptors)
 abbrev pub opened_at : List (Option Opened) → ℕ → Option Opened
 opened_at descs d = slice_index_or descs d None
 
--- counts depend on these alone
+-- counts depend only on these
 abbrev pub CountsOfNames : Type 0
 CountsOfNames = (one other : Parts) → length one.procs ≡ length other.procs → ((n : ℕ) → counting (slot_at one.procs n) ≡ counting (slot_at other.procs n)) →
     ((d : ℕ) → opened_at one.descs d ≡ opened_at other.descs d) → CountsAgree one → CountsAgree other

@@ -43,7 +43,7 @@ pub record Sizes : Type 0 where
 abbrev pub sizes_of : Parts → Sizes
 sizes_of parts = record { procs = length parts.procs; descs = length parts.descs; pipes = length parts.pipes }
 
--- a process number is one that there is
+-- a process number is valid
 pub record IsPid (sizes : Sizes) (n : ℕ) : Type 0 where
   pub low : 1 ≤ n
   pub high : n ≤ sizes.procs
@@ -59,7 +59,7 @@ abbrev pub AreWithin : Sizes → List Change → Type 0
 AreWithin sizes [] = Unit {0}
 AreWithin sizes (change ∷ changes) = IsWithin sizes change × AreWithin sizes changes
 
--- the numbers of the change are ones that there are
+-- the numbers of the change are valid
 abbrev pub IsNamed : Parts → Change → Type 0
 IsNamed parts change = IsWithin (sizes_of parts) change
 

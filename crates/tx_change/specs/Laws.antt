@@ -39,7 +39,8 @@ abbrev pub BringPlaces : List Change → Type 0
 BringPlaces [] = Unit {0}
 BringPlaces (change ∷ changes) = BringsPlaces change × BringPlaces changes
 
--- whether neither change has a part that the other has, or holds: a process number holds all parts of its process
+-- whether neither change has a part that the other has or holds: a process number holds all parts
+-- of its process
 abbrev pub are_apart : Change → Change → Bool
 are_apart (Slot pid slot) (Slot other new) = not (pid.0 == other.0)
 are_apart (Slot pid slot) (Part other new) = not (pid.0 == other.0)
@@ -63,7 +64,7 @@ abbrev pub NothingElse : Type 0
 NothingElse = (parts : Parts) (change other : Change) → IsNamed parts change → are_apart change other ≡ true →
     change_after (parts_after parts change) other ≡ change_after parts other
 
--- it makes no difference which of two parts that are apart is exchanged first
+-- two parts that are apart may be exchanged in either order
 abbrev pub Commute : Type 0
 Commute = (parts : Parts) (change other : Change) → IsNamed parts change → IsNamed parts other → are_apart change other ≡ true →
     parts_after (parts_after parts change) other ≡ parts_after (parts_after parts other) change
@@ -86,12 +87,12 @@ abbrev pub ChangesStateInTurn : Type 0
 ChangesStateInTurn = (held : ℕ → List Sending) (parts : Parts) (changes : List Change) → AreNamed parts changes →
     state_of held (applied parts changes) ≡ changed_by changes (state_of held parts)
 
--- of that state, it leaves all as it was but the object that the change names
+-- it leaves that state as it was except at the object that the change names
 abbrev pub NamesItsObject : Type 0
 NamesItsObject = (held : ℕ → List Sending) (parts : Parts) (change : Change) → IsNamed parts change → (o : Object) → same_object o (object_of change) ≡ false →
     EqualAt (state_of held (parts_after parts change)) (state_of held parts) o
 
--- what one list of changes and another one behind it do, the one does and then the other
+-- what a list of changes with another one after it does, the first does and then the other
 abbrev pub AppliedAppended : Type 0
 AppliedAppended = (parts : Parts) (front behind : List Change) → applied parts (front ++ behind) ≡ applied (applied parts front) behind
 
@@ -152,7 +153,7 @@ BackIsWrite = (held bytes : List ℕ) → length held + length bytes ≤ PIPE_BY
 abbrev pub PlacesStay : Type 0
 PlacesStay = (parts : Parts) (changes : List Change) → AreNamed parts changes → BringPlaces changes → HaveAllPlaces parts → HaveAllPlaces (applied parts changes)
 
--- what is taken out of the parts has its places where the parts have, and what was put in
+-- what is taken out of the parts has its places where the parts have, and so has what was put in
 abbrev pub ExchangedBring : Type 0
 ExchangedBring = (parts : Parts) (changes : List Change) → AreNamed parts changes → BringPlaces changes → HaveAllPlaces parts → BringPlaces (exchanged parts changes)
 

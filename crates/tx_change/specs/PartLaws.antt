@@ -1,4 +1,4 @@
--- The laws of processes, of pipes and of names that exchanges stand on.
+-- The laws of processes, of pipes and of names that exchanges need.
 use Rattle.tx_desc.specs.Laws.{RoomForName, RoomForNames}
 use Rattle.tx_pipe.specs.Laws.{BackTwice, FrontTwice}
 use Rattle.tx_proc.specs.Laws.{Commute, ExchangesBack, NothingElse, TwiceIsNothing}

@@ -10,7 +10,7 @@ piped held (Whole pipe) = held
 piped held (Front count bytes) = front_exchanged count bytes held
 piped held (Back count bytes) = back_exchanged count bytes held
 
--- the bytes that stood there
+-- the bytes that were there
 abbrev pub part_of : List ℕ → PipePart → PipePart
 part_of held (Whole pipe) = Whole pipe
 part_of held (Front count bytes) = Front (count_given count bytes held) (front_given count bytes held)

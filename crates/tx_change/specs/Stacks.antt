@@ -1,4 +1,4 @@
--- A stack of changes that were taken back: its last one is the topmost.
+-- A stack of changes that were taken back: its last one is the top.
 use Rattle.std.specs.Prelude.{◌≡◌, ℕ, ◌-◌, ◌≤◌, List, ◌++◌, length, take, drop, reverse}
 use Rattle.tx_change.specs.Exchange.{AreNamed, applied, exchanged, reverted, undone}
 use Rattle.tx_change.specs.Laws.{BringPlaces, HaveAllPlaces}
@@ -17,7 +17,7 @@ below_top count stack = take (length stack - count) stack
 abbrev pub moved_onto : List Change → Parts → List Change → List Change
 moved_onto stack parts changes = stack ++ reverse (reverted parts changes)
 
--- what was moved back onto a stack stands on top of it, in order, and what stood there stands below
+-- what was moved back onto a stack is on top of it, in order, and what was there is below
 abbrev pub MovedIsOnTop : Type 0
 MovedIsOnTop = (stack : List Change) (parts : Parts) (changes : List Change) → top_of (length changes) (moved_onto stack parts changes) ≡ reverted parts changes
 

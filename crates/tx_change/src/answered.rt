@@ -8,8 +8,8 @@ use crate::parts::Parts;
 use tx_base::Pid;
 use tx_proc::{Answer, Part};
 
-/// The change of the answer of a process. Most steps end with one, so a log has its newest apart from
-/// its list: there it takes no memory, and no exchange looks for what it is.
+/// The change of the answer of a process. Most steps end with one, so a log has its newest apart
+/// from its list: there it takes no memory, and no exchange has to find out what it is.
 #[derive(Clone, Copy)]
 pub(crate) struct Answered {
     pub pid: Pid,

@@ -1,4 +1,4 @@
-//! One part of the kernel, and what it was or is to be.
+//! One part of the kernel, and its old or new value.
 ghost use Rattle.std.specs.Prelude.{◌≡◌};
 ghost use Rattle.tx_change.specs.Exchange.{parts_after, change_after, object_of, IsNamed};
 
@@ -8,8 +8,8 @@ use tx_base::{DescNo, Pid, PipeNo};
 use tx_desc::Opened;
 use tx_proc::{BoxedProc, Part};
 
-/// One part of the kernel, and what it was or is to be. It owns that old or new part, so to
-/// exchange it takes no memory. Own rule.
+/// One part of the kernel, and its old or new value. It owns that value, so an exchange takes no
+/// memory. Own rule.
 #[derive(Drop)]
 pub enum Change {
     /// What a process number has.
@@ -23,9 +23,8 @@ pub enum Change {
 }
 
 impl Change {
-    /// Exchanges the part that the change has with the present one. Each number must be one that
-    /// there is. Nothing happens to a part of a process, or to some bytes of a pipe, that is not
-    /// there.
+    /// Exchanges the part that the change has with the present one. Each number must be valid.
+    /// Nothing happens to a part of a process, or to some bytes of a pipe, that is not there.
     pub fn swap(&mut self, parts: &mut Parts)
         requires { IsNamed parts.old self.old }
         ensures parts { parts.new ≡ parts_after parts.old self.old }

@@ -20,15 +20,15 @@ pub fn exchanges_back()
     part_laws();
 }
 
-/// An exchange leaves every part as it was that is another one: that is, what a change of such a
-/// part would find there. A process number holds all parts of its process.
+/// An exchange leaves every other part as it was: that is, what a change of such a part would find
+/// there. A process number holds all parts of its process.
 pub fn nothing_else()
     ensures { NothingElse }
 {
     part_laws();
 }
 
-/// It makes no difference which of two parts is exchanged first, where neither holds the other.
+/// Two parts may be exchanged in either order, where neither holds the other.
 pub fn commute()
     ensures { Commute }
 {
@@ -100,8 +100,8 @@ pub fn room_for_names()
     part_laws();
 }
 
-/// What a list of changes does that is made of two, the first does and then the other one: to the
-/// parts and to the changes, forward and back, and to the state. There are as many numbers as before.
+/// What two lists of changes in one do, the first does and then the other: to the parts and to the
+/// changes, forward and back, and to the state. There are as many numbers as before.
 pub fn appended()
     ensures applied { AppliedAppended }
     ensures exchanged { ExchangedAppended }
@@ -114,7 +114,7 @@ pub fn appended()
 {}
 
 /// What a list of changes makes of the state: at an object that none of them names nothing; and
-/// changes of parts of one process replace that process alone.
+/// changes of parts of one process replace only that process.
 pub fn lists_change_state()
     ensures elsewhere { ListNamesItsObjects }
     ensures process { PartsReplaceProcess }
@@ -148,18 +148,20 @@ pub fn changes_come_back()
     part_laws();
 }
 
-/// Counts of names depend on which processes run, on their descriptors and on the descriptions alone. Where
-/// they agree before and after a step, and before it with a log led back, they agree after it with that
-/// log led back, as long as at each process and description the log or the step changed nothing that
-/// counts. Changes that are taken back leave what none of them names as it was.
+/// Counts of names depend on which processes run, on their descriptors and on the descriptions, and
+/// on nothing else. Where they agree before and after a step, and before it with a log led back,
+/// they agree after it with that log led back, as long as at each process and description the log
+/// or the step changed nothing that counts. Changes that are taken back leave what none of them
+/// names as it was.
 pub fn counts_led_back()
     ensures names { CountsOfNames }
     ensures back { CountsLedBack }
     ensures elsewhere { BackElsewhere }
 {}
 
-/// What was moved back from a log onto a stack is on top of it, in order, and what stood there is below.
-/// To move it forward again puts the parts back; and the log too, where each process has its places.
+/// What was moved back from a log onto a stack is on top of it, in order, and what was there is
+/// below. To move it forward again puts the parts back; and the log too, where each process has its
+/// places.
 pub fn moved_back_and_forward()
     ensures top { MovedIsOnTop }
     ensures rest { RestIsBelow }

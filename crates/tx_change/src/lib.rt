@@ -1,32 +1,29 @@
 #![tactic(auto)]
-//! The parts of the kernel, and exchanges of one part of a process. An exchange takes no memory and
-//! is never refused, and a second one takes the first one back.
+//! The parts of the kernel, and exchanges of one of them.
 //!
-//! `Parts` is the kernel's present content: the tables of processes, of descriptions and of pipes.
-//! `Change` names one part of it (what a process number has, a part of a process, a description
-//! with its count, what a pipe number has or some bytes of its pipe) and owns another value for it.
-//! `swap` exchanges the owned value with the present one. It takes no memory and can't fail. Laws,
-//! on functions that do nothing: twice is nothing; every part that a change could name, but the
-//! one that it does name, stays; two exchanges commute where neither part holds the other (a
-//! process number holds the parts of its process); and what an exchange makes of the state that the
-//! parts mean, in words of that state alone, so that a call's rule is met by speaking of states.
-//! `apply` swaps the changes of a list from the first to the last, `revert` from the last to the
-//! first. A `Log` is such a list that grows: plans are pushed at its end, it makes them from a
-//! place on (`make_from`), and it leads old parts back (`lead_back`, `give_back`). `move_back` leads
-//! them back onto a stack of changes, and `move_forward` makes them again from there. It has its
-//! newest part apart where that is an answer.
+//! `Parts` is the kernel's present content: the tables of processes, descriptions and pipes.
+//! `Change` names one part of it, and owns another value for it. Nothing above changes a part in
+//! any other way.
 //!
-//! `CountsAgree` says of the parts that each description has as many names as descriptors of
-//! running processes name it. `places_stay` is that changes leave each process a place for each
-//! slot, page, descriptor and action, forth and back; `changes_come_back` that changes which were
-//! taken back, and are made again, are as they were. `counts_with_others` ties the counts to the
-//! names of one process beside those of all others, `counts_agree` is what calls, forks, ends and
-//! all other changes do to them, `counts_in_turn` what a list of changes does as a plan makes it
-//! (descriptors, descriptions, a process that comes or goes, and others), and `room_for_names` that
-//! it gives what the calls of tx_desc ask.
+//! # Exchanges
 //!
-//! So a change is a plan before its swap and a record of the old part after it. It is the only way
-//! in which anything above changes a part.
+//! `swap` exchanges the owned value with the present one, without memory or error. Laws: twice is
+//! nothing; every other part stays; two exchanges commute where neither part holds the other (a
+//! process number holds the parts of its process). What an exchange makes of the state is said in
+//! words of that state, so that a call's rule is met by speaking of states.
+//!
+//! `apply` swaps a list from the first change to the last, `revert` from the last to the first. A
+//! `Log` grows by plans: `make_from` makes them, `lead_back` and `give_back` lead old parts back,
+//! `move_back` does so onto a stack, and `move_forward` makes them again.
+//!
+//! # What stays
+//!
+//! - `counts_with_others`, `counts_agree`, `counts_in_turn`: the counts of names, of one process
+//!   beside all others, after calls, forks and ends, and after a plan's changes in turn.
+//!   `room_for_names`: they give what tx_desc asks.
+//! - `places_stay`: each process has a place for each slot, page, descriptor and action, forth and
+//!   back.
+//! - `changes_come_back`: changes taken back and made again are as they were.
 
 mod answered;
 mod change;

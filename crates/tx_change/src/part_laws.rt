@@ -1,11 +1,11 @@
-//! The laws of processes, of pipes and of names that exchanges stand on.
+//! The laws of processes, of pipes and of names that exchanges need.
 ghost use Rattle.tx_change.specs.PartLaws.{PartLaws};
 
 use tx_desc::room_for_names;
 use tx_pipe::{back_twice, front_twice};
 use tx_proc::{commute, exchanges_back, nothing_else, twice_is_nothing};
 
-/// The laws on which the proofs of exchanges stand. It does nothing.
+/// The laws that the proofs of exchanges need. It does nothing.
 pub(crate) fn part_laws()
     ensures { PartLaws }
 {

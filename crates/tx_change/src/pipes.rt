@@ -36,7 +36,7 @@ impl BoxedPipe {
         Ok(BoxedPipe { pipe })
     }
 
-    /// Appends all the bytes, or none of them, and says which, as `Pipe::write`.
+    /// Appends all the bytes or none, and answers which, as `Pipe::write`.
     pub fn write(&mut self, bytes: &[u8]) -> bool
         ensures fits { IsTrue result ↔ (length self.old + length bytes.now ≤ PIPE_BYTES) }
         ensures appended { OnTrue result (self.new ≡ self.old ++ bytes.now) }
@@ -53,8 +53,8 @@ impl BoxedPipe {
     }
 }
 
-/// What a pipe number has, or some of the bytes of its pipe, and what that was or is to be. It owns
-/// those old or new bytes, so to exchange them takes no memory. Own rule.
+/// What a pipe number has, or some of the bytes of its pipe, and the old or new value of that. It
+/// owns those bytes, so an exchange takes no memory. Own rule.
 #[derive(Drop)]
 pub enum PipePart {
     /// What the number has.
@@ -67,7 +67,7 @@ pub enum PipePart {
 
 impl PipePart {
     /// Exchanges the bytes with those of a number: all that it has, or some of its pipe. Nothing
-    /// happens to some of the bytes where there is no pipe, where it has not so many bytes, or where
+    /// happens to some of the bytes where there is no pipe, where it has fewer bytes, or where
     /// those that come don't fit.
     pub fn swap(&mut self, slot: &mut Option<BoxedPipe>)
         ensures slot { slot.new ≡ piped_in slot.old self.old }
@@ -82,7 +82,7 @@ impl PipePart {
         }
     }
 
-    /// Exchanges the bytes with those of the pipe. A whole pipe is left.
+    /// Exchanges the bytes with those of the pipe. A whole pipe stays.
     fn swap_bytes(&mut self, boxed: &mut BoxedPipe)
         ensures pipe { boxed.new ≡ piped boxed.old self.old }
         ensures part { self.new ≡ part_of boxed.old self.old }
@@ -142,8 +142,7 @@ impl PipeTable {
         }
     }
 
-    /// Exchanges what a number has, or some bytes of its pipe. The number must be one
-    /// that there is.
+    /// Exchanges what a number has, or some bytes of its pipe. The number must be valid.
     #[inline(never)] // inlined, each exchange of a part would save the registers that it takes
     pub fn swap_part(&mut self, number: PipeNo, part: &mut PipePart)
         requires { number.0 < length self.old }

@@ -1,10 +1,10 @@
--- What is so of every machine.
+-- What holds for every machine.
 use Rattle.std.specs.Prelude.{◌≡◌, ◌⊎◌, ℕ, length}
 use Rattle.tx_base.specs.declared.limits.TheConstants.{PROCESSES, WIDE_PROCESSES}
 use Rattle.tx_live.specs.declared.content.Content.{Content}
 use Rattle.tx_step.specs.Contents.{IsContent}
 
--- so many process numbers a machine may have: 64, or 256 where it is wide
+-- how many process numbers a machine may have: 64, or 256 if it is wide
 abbrev pub IsWidth : ℕ → Type 0
 IsWidth width = (width ≡ PROCESSES) ⊎ (width ≡ WIDE_PROCESSES)
 

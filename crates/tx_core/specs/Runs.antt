@@ -17,7 +17,7 @@ pub record IsAfter (start : State) (history : List Accepted) (machine : Content)
   pub lawful : Lawful start history
   pub view : view_of machine ≡ view start history
 
--- the steps that were made of a schedule: all of them, or those before the one where the run stopped
+-- the steps of a schedule that were made: all, or those before the one where the run stopped
 abbrev pub steps_made : Option ℕ → List Step → List Step
 steps_made None steps = steps
 steps_made (Some stopped) steps = take stopped steps

@@ -17,27 +17,27 @@ use tx_base::{DESCRIPTIONS, DescNo, PIPES, Pid, PipeNo};
 use tx_live::Content;
 use tx_reserve::Object;
 
-/// The least numbers that a process may choose for what it makes: each has nothing, and no
-/// transaction of others reserved it.
+/// The least numbers that a process may choose for what it makes: each is unused, and no
+/// transaction of others has reserved it.
 #[derive(Clone, Copy)]
 pub struct Free {
-    /// For the child of a fork: 1 to 64, on a wide machine 1 to 256. Nothing where none is free.
+    /// For the child of a fork: 1 to 64, on a wide machine 1 to 256. None if none is free.
     pub proc: Option<Pid>,
-    /// For a pipe: 0 to 31. Nothing where none is free.
+    /// For a pipe: 0 to 31. None if none is free.
     pub pipe: Option<PipeNo>,
-    /// For the two descriptions of a pipe: 0 to 63, the lower one first. Nothing where fewer than two
-    /// are free.
+    /// For the two descriptions of a pipe: 0 to 63, the lower one first. None if fewer than two are
+    /// free.
     pub descs: Option<(DescNo, DescNo)>,
 }
 
 impl Machine {
-    /// The least numbers that have nothing, and that no transaction but that of the process reserved.
-    /// Own rule.
+    /// The least numbers that are unused and that no transaction but the process's own has
+    /// reserved. Own rule.
     ///
-    /// A call chooses the numbers of what it makes, so a program picks them here, for a fork's child,
-    /// a pipe or its two descriptions. What the process's own transaction reserved and gave up is free
-    /// for the process, and stays reserved from others until that transaction ends. Any number may ask,
-    /// also one that no process has. It takes no memory.
+    /// A call chooses the numbers of what it makes, so a program picks them here. What the
+    /// process's own transaction reserved and gave up is free for the process, but reserved from
+    /// others until that transaction ends. A number that no process has may ask too. It takes no
+    /// memory.
     pub fn free_numbers(&self, pid: Pid) -> Free
         ensures { free_as result ≡ free_numbers (view_of self.now) pid.0 }
     {
@@ -106,8 +106,8 @@ fn least_description(content: &Content, pid: Pid, other: Option<DescNo>) -> Opti
     None
 }
 
-/// Whether the number has no process, and is reserved by no transaction of others. It must be one that
-/// there is.
+/// Whether the number has no process, and is reserved by no transaction of others. It must be in
+/// range.
 fn is_free_process(content: &Content, pid: Pid, number: Pid) -> bool
     requires content { IsContent content.now }
     requires low { 1 ≤ number.0 }
@@ -138,7 +138,7 @@ fn is_free_description(content: &Content, pid: Pid, number: DescNo) -> bool
         && !is_reserved_from(content, pid, Object::Desc(number))
 }
 
-/// Whether the object is reserved by a live transaction that the process is no member of.
+/// Whether a live transaction that the process is not in has reserved the object.
 fn is_reserved_from(content: &Content, pid: Pid, object: Object) -> bool
     requires { IsContent content.now }
     ensures { result ≡ is_reserved_from (view_of content.now) pid.0 (object_of object) }
@@ -146,8 +146,8 @@ fn is_reserved_from(content: &Content, pid: Pid, object: Object) -> bool
     other_owner(content, pid, object).is_some()
 }
 
-/// The starter of the live transaction that has reserved the object, and of which the process is no
-/// member; nothing where there is none.
+/// The starter of the live transaction that has reserved the object and that the process is not in;
+/// none if there is none.
 pub(crate) fn other_owner(content: &Content, pid: Pid, object: Object) -> Option<Pid>
     requires { IsContent content.now }
     ensures { option_map number_of result

@@ -1,10 +1,10 @@
-//! The laws that the machine stands on.
+//! The laws that the proofs of the machine use.
 ghost use Rattle.tx_core.specs.Laws.{MachineLaws};
 
 use tx_laws::{answers_of_states, next_view};
 use tx_step::{booted_is_content, contents_are_whole};
 
-/// The laws on which the proofs of the machine stand. It does nothing.
+/// The laws that the proofs of the machine use. It does nothing.
 pub(crate) fn laws()
     ensures { MachineLaws }
 {

@@ -1,30 +1,25 @@
 #![tactic(auto)]
-//! The machine: a kernel that takes a schedule of steps, with transactions that live side by side,
-//! and an inverse of every accepted step.
+//! The machine: a kernel that takes steps, with transactions side by side and an inverse of every
+//! accepted step.
 //!
-//! `Machine` is a content of tx_live, in a field that nobody outside sees; that it is as steps
-//! leave it (`IsContent`) is the type's invariant. So its calls ask nothing of the machine, but for
-//! the one that takes an inverse.
+//! # The type
 //!
-//! - `boot` and `boot_wide` make a narrow or wide machine with processes 1 to N; its view is that
-//!   of the empty history.
-//! - `step` makes any step: it answers the reply, and the inverse where the step was accepted;
-//!   `step_into` puts both where the caller has places for them, and uses the room of an inverse
-//!   that stood there. `kernel_abort` is the kernel's abort as a call of its own: it takes no memory,
-//!   and is refused only where there is no such transaction.
-//! - `undo` takes the inverse of the last step and gives the content before it, without memory and
-//!   without an error. A machine checks no inverse: that this one leads its content back is a
-//!   premise (`LeadsBack`), which `step` and `kernel_abort` give.
-//! - `take_back` takes a step back as `undo` does, and puts what makes it again by exchange into the
-//!   place of its inverse (`Crossing`), which `redo` takes, on the machine before the step (`LeadsOn`).
-//! - `run` and `run_wide` make the steps of a list and answer the machine with the history of the
-//!   accepted ones. `run_partial` keeps what was run up to a step that wanted memory; a step's
-//!   place in the history is reserved before the step is made.
-//! - `txn_of`, `marks`, `held`, `parts` and `processes` read; `free_numbers` looks for the least
-//!   numbers that a process may choose.
+//! `Machine` is a content of tx_live in a private field. That it is as steps leave it (`IsContent`)
+//! is the type's invariant, so calls require nothing of a machine; those that take an inverse
+//! require that it fits (`LeadsBack`, `LeadsOn`), which no machine checks.
 //!
-//! What the layer above knows is the view: the state, the state without each set of live
-//! transactions, the table, and what is reserved. Logs and owners are in no contract above.
+//! # Its calls
+//!
+//! - `boot`, `boot_wide`: a machine with processes 1 to N.
+//! - `step`, `step_into`, `kernel_abort`: make a step. `step_into` puts reply and inverse into the
+//!   caller's places, and uses the room of the inverse that was there.
+//! - `undo`, `take_back`, `redo`: walk over a step; the last two leave in the inverse's place what
+//!   leads over it again (`Crossing`).
+//! - `run`, `run_wide`, `run_kept`: make the steps of a list. A step's place in the history is
+//!   reserved before the step is made.
+//! - `txn_of`, `marks`, `held`, `parts`, `processes`, `free_numbers`, `footprint`: read.
+//!
+//! Contracts above know only the view; logs and owners are in none.
 
 mod free;
 mod laws;
@@ -34,4 +29,4 @@ mod schedules;
 
 pub use free::Free;
 pub use machine::{Machine, NoTransaction};
-pub use schedules::{PartialRun, Ran, run, run_partial, run_wide};
+pub use schedules::{Kept, Ran, run, run_kept, run_wide};

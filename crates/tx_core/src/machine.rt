@@ -51,7 +51,7 @@ impl Model for Machine {
 }
 
 impl Machine {
-    /// Makes a step. Answers its reply, and where it was accepted the inverse that takes it back.
+    /// Makes a step. Answers its reply, and its inverse if it was accepted.
     ///
     /// A refused step changes nothing. `NoMemory` comes only where nothing else refuses the step, and
     /// never to a member's sys_xabort or to the kernel's abort.
@@ -82,10 +82,10 @@ impl Machine {
         }
     }
 
-    /// Makes a step as `step` does, and puts its reply and its inverse where they are to stand: for a
-    /// caller that makes many, since both are large. Answers whether the step was accepted; where it was
-    /// not, the place of the inverse has nothing of worth. An inverse that stood there is let go, and room
-    /// of it serves the next steps if it is not large.
+    /// Makes a step as `step` does, and puts its reply and its inverse into the caller's places:
+    /// for a caller that makes many, since both are large. Answers whether the step was accepted;
+    /// if not, the place of the inverse has nothing of use. An inverse that was there is dropped,
+    /// but its room, if not large, serves the next steps.
     pub fn step_into(
         &mut self,
         alloc: Global,
@@ -119,8 +119,8 @@ impl Machine {
         }
     }
 
-    /// Makes a step. Answers what it is answered, in few bytes, or why it was refused, and puts its
-    /// inverse into its place.
+    /// Makes a step. Answers its short answer, or why it was refused, and puts its inverse into its
+    /// place.
     fn take(
         &mut self,
         alloc: Global,
@@ -144,11 +144,11 @@ impl Machine {
         }
     }
 
-    /// Aborts the live transaction of a starter: all that its members' steps changed is as it was, and
-    /// the starter stands at the point after its sys_xbegin with the negative status, which is 203 where
-    /// the transaction is doomed, and else 202. It takes no memory. Own rule.
+    /// Aborts the live transaction of a starter: all that its members' steps changed is as it was,
+    /// and the starter is at the point after its sys_xbegin with the negative status: 203 if the
+    /// transaction is doomed, else 202. It takes no memory. Own rule.
     ///
-    /// Answers `NoTransaction` where the starter has no live transaction, with nothing changed.
+    /// `NoTransaction` if the starter has no live transaction; nothing has changed then.
     pub fn kernel_abort(&mut self, starter: Pid) -> Result<Inverse, NoTransaction>
         ensures ok { IfOk result (λ inverse.
             IsStep self.old (KernelAbort starter)
@@ -167,7 +167,7 @@ impl Machine {
         }
     }
 
-    /// Takes back the step whose inverse this is, on the machine as that step left it. It takes no
+    /// Takes back the step with this inverse, on the machine as that step left it. It takes no
     /// memory and is never refused.
     pub fn undo(&mut self, inverse: Inverse)
         requires { LeadsBack self.old inverse }
@@ -176,8 +176,8 @@ impl Machine {
         self.content.undo(inverse);
     }
 
-    /// Takes back the step over which this leads back, as `undo` does, and exchanges it where it stands:
-    /// it leads forward then. The changes of a step inside and of a commit are moved onto the stack, which
+    /// Takes back the step that this leads back over, as `undo` does, and exchanges it in place:
+    /// then it leads forward. The changes of a step inside and of a commit go onto the stack, which
     /// must have room for them: see `Crossing::moved`. It takes no memory and is never refused.
     pub fn take_back(&mut self, crossing: &mut Crossing, stack: &mut Vec<Change>)
         requires leads { HoldsBack crossing.old (LeadsBack self.old) }
@@ -202,10 +202,10 @@ impl Machine {
         let _content = &self.content;
     }
 
-    /// Makes the step again over which this leads forward, on the machine as it was before it: by exchange,
-    /// with no plan and no judgement. It is exchanged where it stands: it leads back then. The changes of a
-    /// step inside and of a commit are taken off the stack. It takes no memory but room that such a step
-    /// had in its transaction.
+    /// Makes the step again that this leads forward over, on the machine as it was before it: by
+    /// exchange, without a plan or a check. It is exchanged in place: then it leads back. The
+    /// changes of a step inside and of a commit come off the stack. It takes no memory but room
+    /// that such a step had in its transaction.
     ///
     /// `NoMemory` where that is refused; all is then as it was.
     pub fn redo(&mut self, crossing: &mut Crossing, stack: &mut Vec<Change>) -> Result<(), NoMemory>
@@ -230,7 +230,7 @@ impl Machine {
         self.content.redo(crossing, stack)
     }
 
-    /// A machine of so many process numbers, of which the first few run.
+    /// A machine with this many process numbers, of which the first few run.
     fn booted(alloc: Global, width: u16, count: u16) -> Result<Machine, NoMemory>
         requires low { 1 ≤ count }
         requires high { count ≤ width }
@@ -243,8 +243,8 @@ impl Machine {
         Ok(Machine { content })
     }
 
-    /// A machine with the processes 1 to count, of 64 that it may have. They run at point 0 with
-    /// nothing else; the parent of 1 is 0, that of the others is 1.
+    /// A machine with processes 1 to `count` of 64. They run at point 0 with nothing else; the
+    /// parent of 1 is 0, that of the others is 1.
     pub fn boot(alloc: Global, count: u16) -> Result<Machine, NoMemory>
         requires low { 1 ≤ count }
         requires high { count ≤ 64 }
@@ -254,7 +254,7 @@ impl Machine {
         Machine::booted(alloc, PROCESSES, count)
     }
 
-    /// A wide machine: as `boot`, of 256 processes that it may have.
+    /// A wide machine: as `boot`, with processes 1 to `count` of 256.
     pub fn boot_wide(alloc: Global, count: u16) -> Result<Machine, NoMemory>
         requires low { 1 ≤ count }
         requires high { count ≤ 256 }

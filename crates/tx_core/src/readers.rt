@@ -1,4 +1,4 @@
-//! What there is to read of a machine.
+//! What can be read of a machine.
 ghost use Rattle.std.specs.Prelude.{◌≡◌, ◌↔◌, ℕ, true, length, map, option_map, IfSome, IsSome};
 ghost use Rattle.tx_base.specs.Slots.{slot_at};
 ghost use Rattle.tx_change.specs.States.{state_of};
@@ -53,7 +53,7 @@ impl Machine {
         &self.content.marks
     }
 
-    /// The sends that the live transaction of a starter holds, in order; none where it has begun none.
+    /// The sends that the live transaction of a starter holds, in order; none if it has begun none.
     pub fn held(&self, starter: Pid) -> &[Sending]
         ensures { map sending_of result.now ≡ (present (view_of self.now)).held starter.0 }
     {
@@ -74,8 +74,8 @@ impl Machine {
         }
     }
 
-    /// Whether the live transaction of a starter has reserved the object: false of an object of a number
-    /// that none may have, and where the starter has begun none.
+    /// Whether the live transaction of a starter has reserved the object: false for an object of a
+    /// number out of range, and if the starter has begun none.
     pub fn has_reserved(&self, starter: Pid, object: Object) -> bool
         ensures { result ≡ (view_of self.now).reserved starter.0 (object_of object) }
     {
@@ -85,8 +85,8 @@ impl Machine {
         }
     }
 
-    /// The starter of the live transaction that has reserved the object, and of which the process of a
-    /// step is no member; nothing where there is none.
+    /// The starter of the live transaction that has reserved the object and that a step's process
+    /// is not in; none if there is none.
     pub fn other_owner(&self, step: &Step, object: Object) -> Option<Pid>
         ensures { option_map number_of result
             ≡ other_owner (view_of self.now) (process_of step.now) (object_of object) }
@@ -94,9 +94,9 @@ impl Machine {
         other_owner(&self.content, maker(step), object)
     }
 
-    /// The objects that a step names: those that it reserves where its process is a member of a
-    /// transaction, of numbers that there may be. A process that is missing names itself alone, and the
-    /// kernel's abort names nothing. It takes no memory.
+    /// The objects, of numbers in range, that a step names: those that it reserves if its process
+    /// is a member of a transaction. A missing process names only itself, and the kernel's abort
+    /// names nothing. It takes no memory.
     pub fn footprint(&self, step: &Step) -> Objects
         ensures { IsSetOf result
             (footprint (view_of self.now).table step.now (present (view_of self.now))) }
@@ -104,21 +104,21 @@ impl Machine {
         footprint(&self.content, step)
     }
 
-    /// The first signal of a step to the starter of a live transaction that has two answers: it is answered
-    /// otherwise now than it would be if that transaction were aborted first. Each signal is answered as if
-    /// those that the step sends before it had been posted.
+    /// The first signal of a step to the starter of a live transaction that has two answers: it is
+    /// answered differently now than if that transaction were aborted first. Each signal is
+    /// answered as if those that the step sends before it had been posted.
     ///
-    /// Nothing where there is none, or the starter has no live transaction; of a starter that the step
-    /// names; and of a step whose process does not run. Whether the step is refused for another reason is
-    /// not asked. It takes no memory.
+    /// None if there is no such signal, if the starter has no live transaction, if the step names
+    /// it, and if the step's process does not run. It does not matter whether the step is refused
+    /// for another reason. It takes no memory.
     pub fn two_answers(&self, step: &Step, starter: Pid) -> Option<TwoAnswers>
         ensures { result ≡ two_answers (view_of self.now) step.now starter.0 }
     {
         two_answers(&self.content, step, starter)
     }
 
-    /// The status that `kernel_abort` of a starter's live transaction gives: 203 where it is doomed, and
-    /// else 202. Nothing where the starter has no live transaction. It takes no memory. Own rule.
+    /// The status that `kernel_abort` of a starter's live transaction gives: 203 if it is doomed,
+    /// else 202. None if the starter has no live transaction. It takes no memory. Own rule.
     pub fn kernel_status(&self, starter: Pid) -> Option<u16>
         ensures status { IfSome result (λ status.
             status ≡ kernel_status (view_of self.now) starter.0) }

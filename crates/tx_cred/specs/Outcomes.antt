@@ -1,4 +1,4 @@
--- What a call on ids comes to.
+-- The outcome of a call on ids.
 use Rattle.std.specs.Prelude.{Result, Ok, Err}
 use Rattle.tx_base.specs.declared.errors.Errno.{Errno}
 use Rattle.tx_model.specs.Book.{with_ids}

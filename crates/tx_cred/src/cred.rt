@@ -38,7 +38,7 @@ impl Cred {
     }
 
     /// Sets the user's ids (POSIX.1-2017, XSH, setuid()): all three where the process is
-    /// privileged, else the effective one alone.
+    /// privileged, else only the effective one.
     ///
     /// InvalidArgument where the number is not 0 to 65,535. NotPermitted where the process is not
     /// privileged and the id is neither its real nor its saved user. The ids are then as they were.
@@ -80,7 +80,7 @@ impl Cred {
     }
 
     /// Sets the group's ids (POSIX.1-2017, XSH, setgid()): all three where the process is
-    /// privileged, else the effective one alone.
+    /// privileged, else only the effective one.
     ///
     /// InvalidArgument where the number is not 0 to 65,535. NotPermitted where the process is not
     /// privileged and the id is neither its real nor its saved group. The ids are then as they

@@ -1,5 +1,4 @@
--- Facts of counts of names. They follow from the definitions and are proved here, so nobody has to
--- believe them.
+-- Facts of counts of names. They are proved here, so nobody has to believe them.
 use Rattle.std.proofs.Common.{◌≡◌, ℕ, ◌+◌, List, ◌∷◌, Option, get_or, None, sym, subst}
 use Rattle.std.proofs.lemmas.List.Sums.{sum_by-cons}
 use Rattle.tx_desc.specs.Counts.{count_in, names_in, HasNames, KeepsCounts, Agrees}

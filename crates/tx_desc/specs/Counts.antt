@@ -22,12 +22,13 @@ HasNames n (Some opened) = (0 < n) × (opened.names ≡ n)
 pub record Agrees (tables : List Descriptors) (descs : List (Option Opened)) : Type 0 where
   pub counted : (d : ℕ) → HasNames (names_in d tables) (slice_index_or descs d None)
 
--- what is there has so many names at least, and its count has room for so many more
+-- what is there has at least so many names, and its count has room for so many more
 abbrev pub IsEnough : ℕ → ℕ → Option Opened → Type 0
 IsEnough n room None = n ≡ 0
 IsEnough n room (Some opened) = (n ≤ opened.names) × (opened.names + room < 2 ^ 16)
 
--- each description that these descriptors name is there, with these names at least and room for so many more
+-- each description that these descriptors name is there, with at least these names and room for so
+-- many more
 pub record IsBacked (room : ℕ) (table : Descriptors) (descs : List (Option Opened)) : Type 0 where
   pub enough : (d : ℕ) → IsEnough (count_in d table) room (slice_index_or descs d None)
 
@@ -36,7 +37,7 @@ abbrev pub HasSpace : ℕ → Option Opened → Type 0
 HasSpace room None = Unit {0}
 HasSpace room (Some opened) = opened.names + room < 2 ^ 16
 
--- the description, if it is one, is there with a name at least, and its count has room for so many more
+-- the description, if any, is there with at least one name, and its count has room for so many more
 abbrev pub HasRoom : ℕ → Option ℕ → List (Option Opened) → Type 0
 HasRoom room None descs = Unit {0}
 HasRoom room (Some d) descs = IsEnough 1 room (slice_index_or descs d None)
@@ -54,7 +55,7 @@ abbrev pub table_of : Option Process → List Descriptors
 table_of None = []
 table_of (Some q) = if is_some q.status then [] else q.descriptors ∷ []
 
--- the descriptors of the processes that run, of numbers below n, but for those of process p
+-- the descriptors of the processes that run, of numbers below n, except those of process p
 unfoldable pub others_below : ℕ → ℕ → State → List Descriptors
 others_below p zero S = []
 others_below p (suc q) S = if q == p then others_below p q S else table_of (S.procs q) ++ others_below p q S

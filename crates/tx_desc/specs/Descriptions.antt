@@ -79,7 +79,7 @@ gone_between None new = None
 gone_between (Some opened) None = Some opened.desc
 gone_between (Some opened) (Some new) = None
 
--- it says which description went with the name that was given up, if one was
+-- which description went with the name that was given up, if any
 abbrev pub IsGone : Option Given → List (Option Opened) → List (Option Opened) → Type 0
 IsGone None old new = Unit {0}
 IsGone (Some given) old new = given.gone ≡ gone_between (slice_index_or old given.number.0 None) (slice_index_or new given.number.0 None)

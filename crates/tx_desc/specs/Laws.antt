@@ -4,7 +4,8 @@ use Rattle.tx_desc.specs.Counts.{Agrees, HasRoom, IsBacked}
 use Rattle.tx_desc.specs.Places.{Descriptors, named_in}
 use Rattle.tx_desc.specs.declared.opened.Opened.{Opened}
 
--- where the counts are right, for 256 processes of 16 descriptors at most, what a fork and an end of one of them require
+-- where the counts are right, with at most 256 processes of 16 descriptors, what a fork and an end
+-- of one of them require
 abbrev pub RoomForNames : Type 0
 RoomForNames = (tables : List Descriptors) (descs : List (Option Opened)) (table : Descriptors) →
     Agrees tables descs → length tables ≤ 256 → All (λ each. length each ≡ 16) tables → Contains tables table → IsBacked 16 table descs

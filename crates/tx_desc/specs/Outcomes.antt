@@ -1,4 +1,5 @@
--- What a call on descriptors comes to where it answers so and leaves these descriptors and descriptions.
+-- The outcome of a call on descriptors that answers so and leaves these descriptors and
+-- descriptions.
 use Rattle.std.specs.Prelude.{◌≡◌, ℕ, List, [], ◌∷◌, pos, Option, Some, None, Result, Ok, Err, length, true}
 use Rattle.tx_base.specs.declared.errors.Errno.{Errno}
 use Rattle.tx_base.specs.declared.limits.TheConstants.{DESCRIPTORS}

@@ -19,12 +19,12 @@ abbrev pub named_in : Descriptors → Option ℕ → Option ℕ
 named_in table None = None
 named_in table (Some f) = slice_index_or table f None
 
--- it is the open descriptor that was asked for, and the description that it names
+-- the open descriptor that was asked for, and the description that it names
 abbrev pub Finds : Descriptors → Option ℕ → Result (ℕ × DescNo) Errno → Type 0
 Finds table f (Ok found) = (f ≡ Some found.0) × (slice_index_or table found.0 None ≡ Some found.1.0)
 Finds table f (Err errno) = (errno ≡ BadDescriptor) × (named_in table f ≡ None)
 
--- the answer to who asks which description a descriptor names
+-- the answer to which description a descriptor names
 abbrev pub looked_up : Option ℕ → Result DescNo Errno
 looked_up None = Err BadDescriptor
 looked_up (Some d) = Ok (record { 0 = d })

@@ -25,12 +25,12 @@ abbrev pub put_descs : List NewDesc → List (Option Opened) → List (Option Op
 put_descs [] descs = descs
 put_descs (new ∷ news) descs = put_descs news (slice_set descs new.number.0 new.opened)
 
--- each descriptor is one that there is
+-- each descriptor is valid
 abbrev pub AreFds : List NewName → Type 0
 AreFds [] = Unit {0}
 AreFds (new ∷ news) = (new.fd < 16) × AreFds news
 
--- each description number is one that there is
+-- each description number is valid
 abbrev pub AreNumbers : List NewDesc → Type 0
 AreNumbers [] = Unit {0}
 AreNumbers (new ∷ news) = (new.number.0 < 64) × AreNumbers news
@@ -80,7 +80,8 @@ abbrev pub nonblock_puts : Result NewDesc Errno → Puts
 nonblock_puts (Ok plan) = record { names = []; descs = plan ∷ [] }
 nonblock_puts (Err errno) = record { names = []; descs = [] }
 
--- the descriptions that a rename changes: the one that is to have a name more, and the one that is to have a name fewer
+-- the descriptions that a rename changes: the one that gets a name more, and the one that gets a
+-- name fewer
 abbrev pub RenamesOf : Option ℕ → Option ℕ → Option Rename → Type 0
 RenamesOf named left None = Unit {0}
 RenamesOf named left (Some rename) = (named ≡ Some rename.named.number.0) × (left ≡ option_map (λ new. new.number.0) rename.left)
@@ -90,7 +91,7 @@ abbrev pub IsOfTwo : Option ℕ → Option ℕ → Option Rename → Type 0
 IsOfTwo f g None = Unit {0}
 IsOfTwo f g (Some rename) = f ≢ g
 
--- the name that a rename gives up is of the description that is to have a name fewer
+-- the name that a rename gives up is of the description that gets a name fewer
 abbrev pub GivesLeft : Option Given → Option Rename → Type 0
 GivesLeft given None = Unit {0}
 GivesLeft given (Some rename) = option_map (λ g. g.number.0) given ≡ option_map (λ new. new.number.0) rename.left
@@ -100,7 +101,7 @@ abbrev pub answer_of : {A B : Type 0} → (A → B) → Result A Errno → Resul
 answer_of answer (Ok plan) = Ok (answer plan)
 answer_of answer (Err errno) = Err errno
 
--- what a description is to be where one name of it is given up
+-- what a description becomes where one name of it is given up
 abbrev pub desc_fewer : List (Option Opened) → DescNo → NewDesc
 desc_fewer descs d = record { number = d; opened = with_fewer 1 (slice_index_or descs d.0 None) }
 

@@ -1,5 +1,5 @@
-//! The counts of names: raised where a descriptor comes to name a description, lowered where one gives
-//! its name up.
+//! The counts of names: raised where a descriptor gets to name a description, lowered where one
+//! gives its name up.
 ghost use Rattle.std.specs.Prelude.{◌≡◌, ◌<◌, ℕ, List, [], ◌∷◌, None, option_map, slice_index_or};
 ghost use Rattle.tx_model.specs.Descriptors.{description_removals, open_in};
 ghost use Rattle.tx_model.specs.State.{State, with_writes};
@@ -24,7 +24,7 @@ enum Names {
 }
 
 impl Descs {
-    /// What the descriptions are to be where one more process has these descriptors (POSIX.1-2017,
+    /// What the descriptions become where one more process has these descriptors (POSIX.1-2017,
     /// XSH, fork()): each one that they name, once, with these names more. Nothing is changed.
     pub fn plan_raise_all(&self, table: &FdTable) -> ArrayVec<NewDesc, DESCRIPTORS>
         requires { IsBacked 16 table.now self.now }
@@ -37,9 +37,9 @@ impl Descs {
         self.plan_all(table, Names::More)
     }
 
-    /// What the descriptions are to be where one process fewer has these descriptors, as one that
-    /// ends (POSIX.1-2017, XSH, _exit()): each one that they name, once, with these names fewer.
-    /// Nothing is changed.
+    /// What the descriptions become where one process fewer has these descriptors, as one that ends
+    /// (POSIX.1-2017, XSH, _exit()): each one that they name, once, with these names fewer. Nothing
+    /// is changed.
     pub fn plan_drop_all(&self, table: &FdTable) -> ArrayVec<NewDesc, DESCRIPTORS>
         requires { IsBacked 16 table.now self.now }
         ensures counts { KeepsCounts table.now [] self.now (put_descs result.items self.now) }
@@ -81,7 +81,7 @@ impl Descs {
         self.put_all(plan.as_slice());
     }
 
-    /// What the descriptions are to be where all names of these descriptors come or are given up.
+    /// What the descriptions become where all names of these descriptors come or are given up.
     fn plan_all(&self, table: &FdTable, names: Names) -> ArrayVec<NewDesc, DESCRIPTORS>
         requires { IsBacked 16 table.now self.now }
         ensures after { (d : ℕ) → slice_index_or (put_descs result.items self.now) d None
@@ -124,7 +124,7 @@ impl Descs {
         counts
     }
 
-    /// What a description that so many of these descriptors name is to be.
+    /// What a description becomes that so many of these descriptors name.
     fn plan_one(&self, table: &FdTable, d: DescNo, count: u16, names: Names) -> NewDesc
         requires room { IsBacked 16 table.now self.now }
         requires named { 0 < count_in d.0 table.now }
@@ -169,7 +169,7 @@ impl Descs {
         })
     }
 
-    /// What a description is to be where one name of it is given up, and what goes with that name.
+    /// What a description becomes where one name of it is given up, and what goes with that name.
     pub(crate) fn one_fewer(&self, d: DescNo) -> (NewDesc, Given)
         ensures desc { result.0 ≡ desc_fewer self.now d }
         ensures given { result.1 ≡ given_fewer self.now d }

@@ -13,7 +13,7 @@ use std::mem;
 use tx_base::{DESCRIPTIONS, DescNo, PipeNo};
 
 /// The open descriptions of all processes: numbers 0 to 63. Those of each side of each pipe are
-/// counted beside, so that who asks whether one is left need not look for it. Contracts see what
+/// counted too, so that nobody has to look for one to know whether one is left. Contracts see what
 /// each number has.
 #[derive(Drop)]
 pub struct Descs {

@@ -59,7 +59,7 @@ impl EndCounts {
         self.raise(new);
     }
 
-    /// Counts the description of a place, if it has one, no more.
+    /// Counts the description of a place, if it has one, no longer.
     fn lower(&mut self, place: Option<Opened>)
         requires { HasOne place self.old }
         ensures { Recounts place None self.old self.new }

@@ -39,8 +39,8 @@ pub fn counts_kept()
         KeepsCounts [] [] descs after → Agrees tables descs → Agrees tables after }
 {}
 
-/// Where the counts are right, for 256 processes of 16 descriptors at most, what a fork and an end
-/// of one of them require holds; and with it what a call on one of its descriptors requires, open or
+/// Where the counts are right, with at most 256 processes of 16 descriptors, what a fork and an end
+/// of one of them require holds; so does what a call on one of its descriptors requires, open or
 /// not.
 pub fn room_for_names()
     ensures all { RoomForNames }
@@ -53,8 +53,8 @@ pub fn any_order()
         IsPermutation tables others → Agrees tables descs → Agrees others descs }
 {}
 
-/// Which descriptions a state names is said by the descriptors of a process and of all others: of a
-/// process that runs, and comes to have these descriptors, and of one that ends.
+/// Which descriptions a state names follows from the descriptors of a process and of all others: of
+/// a process that runs, and comes to have these descriptors, and of one that ends.
 pub fn named_by_processes()
     ensures running { (p : ℕ) (me new : Process) (S : State) (table : Descriptors) →
         RunsWith p me S table →

@@ -1,22 +1,16 @@
 //! The descriptors of a process, and the open descriptions that they name. No call takes memory.
 //!
-//! `FdTable` is what the sixteen descriptors of a process name, and `Descs` the open descriptions,
-//! each with its pipe, side and flag, and with the count of its names. In the definitions nothing
-//! is counted: a description is there exactly while a descriptor of a process that runs names it.
-//! So a contract of a call (`pipe_pair`, `dup`, `dup2`, `close`, `set_nonblock`) says three things:
-//! its answer and the descriptors after it are those of the rule (`answer`); the descriptions after
-//! it are those of the rule, in every state that has the ones before and whose counts agree
-//! (`descriptions`); and the counts still agree, whatever all other processes name (`counts`).
-//! `Agrees` is that agreement, over the descriptors of any processes in any order: of one, or of
-//! all of a kernel. `raise_all` and `drop_all` are a fork and an end.
+//! `FdTable` has what the descriptors of a process name, `Descs` the descriptions with the counts
+//! of their names. The definitions count nothing: a description is there exactly while a running
+//! process's descriptor names it. So a call's contract says three things: its answer and
+//! descriptors are the rule's (`answer`); so are the descriptions, in every state that has those
+//! before and whose counts agree (`descriptions`); and the counts agree again, whatever other
+//! processes name (`counts`). `Agrees` is that, over the descriptors of any processes, in any
+//! order.
 //!
-//! Each of them has two forms. A plan (`plan_dup`, ..) reads and says which descriptors are to name
-//! what, and which numbers are to have which description with its count; it takes no memory. The
-//! call in place is its plan and the exchanges, so each rule is proved once: the plan's clauses
-//! speak of the descriptors and descriptions with its entries put in (`put_names`, `put_descs`),
-//! and its numbers are ones that there are. What a call asks is that the descriptions it counts are
-//! there with room (`HasRoom`; of a fork and an end `IsBacked`), which follows from agreement:
-//! `room_for_names`.
+//! A plan (`plan_dup`, ..) reads, and says what is put in place. A call is its plan and the
+//! exchanges, so each rule is proved once. Calls ask that the descriptions they count are there
+//! with room (`HasRoom`, `IsBacked`), which agreement gives: `room_for_names`.
 #![tactic(auto)]
 
 mod calls;

@@ -1,4 +1,4 @@
-//! The plans of the calls: what each is to put in place. Nothing is changed.
+//! The plans of the calls: what each puts in place. Nothing is changed.
 ghost use Rattle.std.specs.Prelude.{◌≡◌, ◌≢◌, ◌<◌, List, Option, IfOk, [], ◌∷◌, Some, None, slice_index_or, slice_set};
 ghost use Rattle.tx_desc.specs.declared.opened.Opened.{Opened};
 ghost use Rattle.tx_model.specs.Book.{pipe as pipe_rule, dup, dup2, close, set_nonblock, description_at};

@@ -1,33 +1,33 @@
-//! What a call on descriptors is to put in place.
+//! What a call on descriptors puts in place.
 use crate::given::{Given, Renamed};
 use crate::opened::Opened;
 use tx_base::DescNo;
 
-/// What a descriptor is to name. A plan of a call makes it, and `FdTable::swap` puts it in place.
+/// What a descriptor will name. A plan of a call makes it, and `FdTable::swap` puts it in place.
 #[derive(Clone, Copy)]
 pub struct NewName {
     /// The descriptor: 0 to 15.
     pub fd: usize,
-    /// The description that it is to name; nothing where it is to be free.
+    /// The description that it will name; nothing where it will be free.
     pub name: Option<DescNo>,
 }
 
-/// What a description number is to have. A plan of a call makes it, and `Descs::swap` puts it in
+/// What a description number will have. A plan of a call makes it, and `Descs::swap` puts it in
 /// place.
 #[derive(Clone, Copy, Default)]
 pub struct NewDesc {
     /// The number: 0 to 63.
     pub number: DescNo,
-    /// The description with the count of its names; nothing where it is to go.
+    /// The description with the count of its names; nothing where it goes.
     pub opened: Option<Opened>,
 }
 
 /// What a `pipe_pair` changes.
 #[derive(Clone, Copy)]
 pub struct PipePlan {
-    /// The descriptor that is to name the reading side.
+    /// The descriptor that will name the reading side.
     pub read_name: NewName,
-    /// The descriptor that is to name the writing side.
+    /// The descriptor that will name the writing side.
     pub write_name: NewName,
     pub read: NewDesc,
     pub write: NewDesc,
@@ -50,11 +50,11 @@ pub struct Dup2Plan {
     pub rename: Option<Rename>,
 }
 
-/// A descriptor that is to name another description than it did.
+/// A descriptor that will name another description than it does.
 #[derive(Clone, Copy)]
 pub struct Rename {
     pub name: NewName,
-    /// The description that it is to name, with one name more.
+    /// The description that it will name, with one name more.
     pub named: NewDesc,
     /// The description that it named, with one name fewer; nothing where it was free.
     pub left: Option<NewDesc>,

@@ -14,7 +14,7 @@ edits one other =
     let to = chars (map to_ascii_lowercase other) in
     levenshtein_row nat_eq (chars (map to_ascii_lowercase one)) to (length to)
 
--- how many edits a word of so many bytes may be away: two bytes for each, and two edits at most
+-- how many edits a word of so many bytes may be away: one for each two bytes, and at most two
 abbrev pub most_edits : ℕ → ℕ
 most_edits bytes = min (bytes / 2) 2
 

@@ -14,7 +14,7 @@ Text = List ℕ
 abbrev pub Row : Type 0
 Row = List Text × Text
 
--- the first of a topic's words, by which it goes
+-- the first of a topic's words, which names it
 abbrev pub name_among : List Text → Text
 name_among [] = []
 name_among (word ∷ words) = word

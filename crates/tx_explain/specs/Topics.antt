@@ -44,7 +44,7 @@ topics_in groups = flat_map (λ (group : Group). group.topics.now) groups
 abbrev pub rows_in : List (Text × List Row) → List Row
 rows_in groups = flat_map (λ (group : Text × List Row). group.1) groups
 
--- the word by which the topic of a row goes
+-- the word that names the topic of a row
 abbrev pub name_in : Row → Text
 name_in row = name_among row.0
 
@@ -60,7 +60,8 @@ asked word = option_map name_in (row_asked word)
 abbrev pub told : Text → Option Text
 told word = option_map (λ (row : Row). row.1) (row_asked word)
 
--- lines of printable characters, each of 79 columns at most and with its end: what is left of them from a column on
+-- lines of printable characters, each of at most 79 columns and with its end: what is left of them
+-- from a column on
 abbrev pub are_lines_from : ℕ → Text → Bool
 are_lines_from column [] = column == 0
 are_lines_from column (byte ∷ bytes) =
@@ -80,7 +81,7 @@ abbrev pub is_page_of : Text → Option (Bor Text) → Bool
 is_page_of word None = false
 is_page_of word (Some text) = opens word text.now
 
--- a topic whose text is as it has to be
+-- a topic whose text is as it must be
 abbrev pub is_formed : Topic → Bool
 is_formed topic = opens topic.word.now topic.text.now && is_page topic.text.now
 

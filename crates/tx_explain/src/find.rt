@@ -13,10 +13,10 @@ use crate::topic::{Group, Topic};
 use crate::topics::groups;
 
 /// What a word of the program, of its texts or of its reports means: lines of at most 79 printable
-/// characters, each with its end, of which the first begins with the word and `: `. Letters count as
-/// the same in either case, and a number is found with `-` before it too. Nothing where the word is
-/// none of [`listing`](crate::listing), and no other name of one. What the first line says is pinned
-/// (`Table.antt`); what the lines after it say is not.
+/// characters, each with its end, of which the first begins with the word and `: `. Letters count
+/// as the same in either case, and a number is found with `-` before it too. Nothing where the word
+/// is not in [`listing`](crate::listing), and not another name of one there. The contract says what
+/// is in the first line (`Table.antt`), and nothing of what is in the lines after it.
 pub fn explain(word: &str) -> Option<&'static str>
     ensures known { is_some result ≡ is_some (asked word.now) }
     ensures opens { IfSome result (λ text. IfSome (asked word.now) (λ name.

@@ -1,12 +1,11 @@
-//! What the words of the program mean, for people: refusals, faults, errors by name and by number,
-//! replies, each call and step, the commands of the debugger, what a state's text has, and what texts
-//! are made of.
+//! What the words of the program mean, for people: refusals, faults, errors, replies, calls, steps,
+//! the debugger's commands, and what states and texts are made of.
 //!
-//! `explain` answers a word, `listing` has all words in groups, `session_page` what a session can be asked
-//! for, and `nearest` finds the word that one was meant for. `topics/` has a table for each group, with the
-//! texts as they are told; `topic.rt` says what a topic is. Which words there are is said once more, and
-//! each promise goes by that, in `specs/Table.antt`. What the texts say is compared with the documents by
-//! `tests/explained`.
+//! `explain` answers a word, `listing` has all words in groups, `session_page` has what a session
+//! can be asked, and `nearest` finds the word that one was meant for. `topics/` has a table for
+//! each group, with the pages; `topic.rt` says what a topic is. `specs/Table.antt` says again which
+//! words there are, and each promise goes by that. `tests/texts/explained` compares the pages with the
+//! documents.
 #![tactic(auto)]
 
 mod find;

@@ -8,9 +8,9 @@ use crate::topics::groups;
 use std::alloc::{AllocError, Global};
 use std::fmt::Write;
 
-/// The words that [`explain`](crate::explain) knows, in groups: for each group its title, and a line
-/// with its words. A word that is found by another one too, as `EINVAL` by `-22`, stands once. The only
-/// error is that a growth of memory was refused.
+/// The words that [`explain`](crate::explain) knows, in groups: for each group its title, and a
+/// line with its words. A word that is found by another one too, as `EINVAL` by `-22`, is listed
+/// once. The only error is that a growth of memory was refused.
 pub fn listing(alloc: Global) -> Result<String, AllocError>
     ensures words { IfOk result (λ text. string_bytes text ≡ listed all_rows) }
     ensures lines { IfOk result (λ text. IsTrue (is_page (string_bytes text))) }

@@ -1,4 +1,4 @@
--- The numbers that digits spell, each in its one spelling, and the bytes that hex digits do.
+-- The numbers that digits spell, each in its one spelling, and the bytes that hex digits spell.
 use Rattle.std.specs.Prelude.{ℕ, ℤ, zero, suc, pos, negsuc, ◌+◌, ◌-◌, ◌*◌, List, [], ◌∷◌, Option, Some, None, fold, if◌then◌else◌, nat_eq, option_map, option_and_then, Result, Ok, Err}
 use Rattle.std.specs.Fmt.{decimal}
 use Rattle.std.specs.Str.{bytes_eq}

@@ -1,4 +1,4 @@
--- Lines of JSON read back to what they are the lines of.
+-- Lines of JSON read back to what they are of.
 use Rattle.std.specs.Prelude.{◌≡◌, ◌<◌, ◌^◌, ℕ, All, FitsSigned, Option, Some, None}
 use Rattle.std.specs.Int.{w64}
 use Rattle.hex.specs.Hex.{IsBytes}
@@ -37,7 +37,7 @@ IsTypedReply (Aborted status) = status < 2 ^ 16
 IsTypedReply (Out bytes) = IsBytes bytes.items
 IsTypedReply (No refusal) = IsTypedRefusal refusal
 
--- what the line of a step tells: its number where it was accepted, and its reply
+-- what the line of a step says: its number if it was accepted, and its reply
 abbrev pub told_of : ℕ → Reply → Option ℕ × Reply
 told_of number (No refusal) = (None, No refusal)
 told_of number (Done ret) = (Some number, Done ret)
@@ -46,19 +46,19 @@ told_of number (Committed undelivered) = (Some number, Committed undelivered)
 told_of number (Aborted status) = (Some number, Aborted status)
 told_of number (Out bytes) = (Some number, Out bytes)
 
--- the line of a step, without its end, reads back to what it tells
+-- the line of a step, without its end, reads back to what it says
 abbrev pub StepsReadBack : Type 0
 StepsReadBack = (number : ℕ) (reply : Reply) → number < 2 ^ 64 → IsTypedReply reply → step_of_json (print (step_answer number reply)) ≡ Some (told_of number reply)
 
--- what the line of an entry tells: its step by the text, of which `read_step` reads no other step
+-- what the line of an entry says: its step by the text, from which `read_step` reads no other step
 abbrev pub told_of_entry : ℕ → Entry → EntryTold
 told_of_entry number entry = record { number = number; worker = entry.worker; step = step_text entry.step; reply = entry.reply }
 
--- the line of an entry, without its end, reads back to what it tells
+-- the line of an entry, without its end, reads back to what it says
 abbrev pub EntriesReadBack : Type 0
 EntriesReadBack =
     (number : ℕ) (entry : Entry) → number < 2 ^ 64 → entry.worker < 2 ^ 16 → IsTypedReply entry.reply → entry_of_json (print (entry_line number entry)) ≡ Some (told_of_entry number entry)
 
--- the line of a state, without its end, reads back to the position and to what is told of the state. What is asked of the view is so after every lawful history, but that its numbers are of the kernel's types
+-- the line of a state, without its end, reads back to the position and to what it says of the state. What is required of the view holds after every lawful history, but for the types of its numbers
 abbrev pub StatesReadBack : Type 0
 StatesReadBack = (at : ℕ) (V : View) → at < 2 ^ 64 → IsOfKernel V → state_of_json (print (state_answer at V)) ≡ Some (at, told_of_view V)

@@ -1,4 +1,4 @@
--- The entry of a run that a line of JSON tells.
+-- The entry of a run that a line of JSON gives.
 use Rattle.std.specs.Prelude.{ℕ, List, Option, Some, codes}
 use Rattle.json.specs.Lex.{tokens}
 use Rattle.tx_base.specs.declared.steps.Reply.{Reply}
@@ -20,6 +20,6 @@ entry_members tokens = do
   reply ← reply_in step.1
   Some (record { number = number.0; worker = worker.0; step = step.0; reply = reply.0 }, reply.1)
 
--- what a line tells of an entry
+-- what a line says of an entry
 abbrev pub entry_of_json : List ℕ → Option EntryTold
 entry_of_json line = whole (object_by entry_members (tokens line))

@@ -1,4 +1,4 @@
--- The processes that JSON tells.
+-- The processes that JSON gives.
 use Rattle.std.specs.Prelude.{ℕ, zero, suc, ◌+◌, List, [], ◌∷◌, ◌++◌, Option, Some, None, codes, if◌then◌else◌, nat_eq, unwrap_or}
 use Rattle.std.specs.Str.{bytes_eq}
 use Rattle.json.specs.Token.{Token}
@@ -11,12 +11,12 @@ use Rattle.tx_model.specs.SignalSets.{set_of}
 use Rattle.tx_model.specs.State.{Frame, Ids, Process, Queued}
 use Rattle.tx_faithful.specs.Reading.{◌>>=◌, bytes_in, count_at, count_in, flag_in, list_in, number_at, number_in, object_by, word_in, Read}
 
--- what stands by a number among numbered things
+-- what is at a number among numbered things
 abbrev pub found_at : {A : Type 0} → List (ℕ × A) → ℕ → Option A
 found_at [] number = None
 found_at (one ∷ rest) number = if nat_eq one.0 number then Some one.1 else found_at rest number
 
--- what stands by each number below a limit
+-- what is at each number below a limit
 unfoldable pub table : {A : Type 0} → (ℕ → A) → ℕ → List A
 table at zero = []
 table at (suc limit) = table at limit ++ at limit ∷ []
@@ -165,7 +165,7 @@ process_with parent status registers ids memory descriptors signals = record {
   frames = signals.frames;
 }
 
--- all that stands behind who its parent is, and how it ended
+-- all that follows its parent and how it ended
 unfoldable pub own_in : ℕ → Option ℕ → Read Process
 own_in parent status tokens = do
   registers ← registers_in tokens

@@ -1,4 +1,4 @@
--- The reply that a line of JSON tells.
+-- The reply that a line of JSON gives.
 use Rattle.std.specs.Prelude.{ℕ, List, [], ◌∷◌, Option, Some, None, codes, if◌then◌else◌, nat_eq}
 use Rattle.std.specs.Str.{bytes_eq}
 use Rattle.json.specs.Lex.{tokens}
@@ -13,7 +13,7 @@ use Rattle.tx_base.specs.declared.steps.Reply.TheVariants.{Done, Ended, Committe
 use Rattle.tx_faithful.specs.Reading.{◌>>=◌, bytes_in, count_in, list_in, number_in, object_by, whole, word_in, Read}
 use Rattle.tx_text.specs.Replies.{error_name}
 
--- the one of some names that a word is
+-- which of some names a word is
 abbrev pub named_by : {A : Type 0} → List (List ℕ × A) → List ℕ → Option A
 named_by [] word = None
 named_by (one ∷ rest) word = if bytes_eq one.0 word then Some one.1 else named_by rest word
@@ -49,7 +49,7 @@ missed_members tokens = do
 abbrev pub missed_at : Read Missed
 missed_at tokens = object_by missed_members tokens
 
--- what stands behind the name of an error, where there has to be one
+-- what follows the name of an error, where there must be one
 abbrev pub behind_error : Option (List ℕ) → List Token → Option (List Token)
 behind_error None tokens = Some tokens
 behind_error (Some name) tokens = do
@@ -119,6 +119,6 @@ accepted_members tokens = do
 unfoldable pub step_members : Read (Option ℕ × Reply)
 step_members tokens = or_else (refused_members tokens) (accepted_members tokens)
 
--- what a line tells of a step: its number where it was accepted, and its reply
+-- what a line says of a step: its number if it was accepted, and its reply
 abbrev pub step_of_json : List ℕ → Option (Option ℕ × Reply)
 step_of_json line = whole (object_by step_members (tokens line))

@@ -1,4 +1,4 @@
--- The state that a line of JSON tells.
+-- The state that a line of JSON gives.
 use Rattle.std.specs.Prelude.{ℕ, ◌+◌, Bool, List, [], ◌∷◌, ◌++◌, Option, Some, None, codes, if◌then◌else◌}
 use Rattle.json.specs.Lex.{tokens}
 use Rattle.tx_model.specs.State.{Description, Process, ReadSide, Sending, Side, WriteSide}
@@ -6,14 +6,14 @@ use Rattle.tx_faithful.specs.ReadProcesses.{found_at, process_members}
 use Rattle.tx_faithful.specs.ReadReplies.{named_by}
 use Rattle.tx_faithful.specs.Reading.{◌>>=◌, behind_key, bytes_in, count_at, count_in, flag_in, list_in, number_in, object_by, whole, word_in, Read}
 
--- a live transaction: whether it defers deliveries, the members whose part is open or ended, and the sends that it holds, of which it is not told who sent them
+-- a live transaction: whether it defers deliveries, the members whose part is open or ended, and the sends that it holds, without their senders
 pub record TxnTold : Type 0 where
   pub defers : Bool
   pub open_parts : List ℕ
   pub ended_parts : List ℕ
   pub held : List Sending
 
--- what is told of a state, by number: processes, descriptions and pipes, and live transactions by their starters
+-- what is said of a state, by number: processes, descriptions and pipes, and live transactions by their starters
 pub record StateTold : Type 0 where
   pub procs : ℕ → Option Process
   pub descs : ℕ → Option Description
@@ -82,6 +82,6 @@ place_members tokens = do
   state ← object_by state_members inside
   Some ((at.0, state.0), state.1)
 
--- what a line tells of a state: the position, and what is there
+-- what a line says of a state: the position, and what is there
 abbrev pub state_of_json : List ℕ → Option (ℕ × StateTold)
 state_of_json line = whole (object_by place_members (tokens line))

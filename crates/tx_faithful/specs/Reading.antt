@@ -1,4 +1,4 @@
--- What reads tokens one after another: what was read, and the tokens behind it.
+-- What reads tokens one after another: what was read, and the tokens after it.
 use Rattle.std.specs.Prelude.{ℕ, ℤ, zero, suc, Bool, List, [], ◌∷◌, length, Option, Some, None, if◌then◌else◌}
 use Rattle.std.specs.Str.{bytes_eq}
 use Rattle.json.specs.Json.{after_end_array}
@@ -14,12 +14,12 @@ abbrev pub ◌>>=◌ : {A B : Type 0} → Option A → (A → Option B) → Opti
 None >>= next = None
 Some one >>= next = next one
 
--- what stands behind a key of that name
+-- what follows a key of that name
 abbrev pub behind_key : List ℕ → List Token → Option (List Token)
 behind_key name (Token.key found ∷ rest) = if bytes_eq found name then Some rest else None
 behind_key name _ = None
 
--- the text of a number, a string, and whether something is so
+-- the text of a number, a string, and true or false
 abbrev pub digits_at : Read (List ℕ)
 digits_at (Token.number digits ∷ rest) = Some (digits, rest)
 digits_at _ = None
@@ -65,7 +65,7 @@ bytes_in name tokens = do
   bytes ← bytes_of word.0
   Some (bytes, word.1)
 
--- what stands behind a bracket
+-- what follows a bracket
 abbrev pub behind_begin : List Token → Option (List Token)
 behind_begin (Token.begin_object ∷ rest) = Some rest
 behind_begin _ = None
@@ -105,7 +105,7 @@ list_in name item tokens = do
   inside ← behind_list list
   items_by item (suc (length inside)) inside
 
--- what is read is all that there is
+-- what is read is all there is
 abbrev pub whole : {A : Type 0} → Option (A × List Token) → Option A
 whole None = None
 whole (Some (read, [])) = Some read

@@ -1,4 +1,4 @@
--- What the text of a state tells of the state.
+-- What the text of a state says of the state.
 use Rattle.std.specs.Prelude.{◌≡◌, ℕ, ◌<◌, ◌≤◌, ◌^◌, true, false, List, map, All, pos, FitsSigned, Option, Some, None}
 use Rattle.std.specs.Int.{w64}
 use Rattle.hex.specs.Hex.{IsBytes}
@@ -15,7 +15,7 @@ use Rattle.tx_laws.specs.WellFormed.{IsWellFormed}
 use Rattle.tx_laws.specs.WellFormedTable.{IsWellFormedWith}
 use Rattle.tx_text.specs.State.{state_text}
 
--- the answer and the slots are numbers of 64 bits
+-- the answer and the slots are 64-bit numbers
 pub record HasWords (registers : Regs) : Type 0 where
   pub ret : FitsSigned w64 registers.ret
   pub slots : All (FitsSigned w64) registers.slots
@@ -35,7 +35,7 @@ abbrev pub IsStatus : Option ℕ → Type 0
 IsStatus None = Unit {0}
 IsStatus (Some status) = status < 2 ^ 16
 
--- of 64 bits is what a queued signal brings, what a caught one saved, and what a held one brings
+-- what a queued or held signal brings, and what a caught one saved, is of 64 bits
 abbrev pub HasEntryWord : Queued → Type 0
 HasEntryWord entry = FitsSigned w64 entry.value
 
@@ -61,7 +61,7 @@ pub record IsTyped (S : State) : Type 0 where
   pub pipes : (k : ℕ) (bytes : List ℕ) → S.pipes k ≡ Some bytes → IsBytes bytes
   pub held : (s : ℕ) → All HasSentWord (S.held s)
 
--- what the law asks of a view
+-- what the law requires of a view
 pub record IsOfKernel (V : View) : Type 0 where
   -- the table has the width of the state
   pub width : (present V).width ≡ V.table.width
@@ -71,7 +71,7 @@ pub record IsOfKernel (V : View) : Type 0 where
   pub table : IsWellFormedWith V.table (present V)
   pub typed : IsTyped (present V)
 
--- registers without the point and the answer, where a process has ended: no line prints them
+-- registers without the point and the answer if a process has ended: no line prints them
 abbrev pub shown_registers : Option ℕ → Regs → Regs
 shown_registers None registers = registers
 shown_registers (Some status) registers = record registers { point = 0; ret = pos 0 }
@@ -101,7 +101,7 @@ standing (Some mark) = Some (record mark { defers = false })
 abbrev pub shown_table : Table → Table
 shown_table t = record t { marks = λ p. standing (t.marks p) }
 
--- what two views have in common where they have one text
+-- what two views with one text have in common
 pub record TellsSame (V W : View) : Type 0 where
   -- the same processes, descriptions and pipes, and the same sends held, as they are shown
   pub state : shown_state (present V) ≡ shown_state (present W)
@@ -111,17 +111,17 @@ pub record TellsSame (V W : View) : Type 0 where
   pub defers : (s : ℕ) → is_live V.table s ≡ true →
       defers_in (V.table.marks s) ≡ defers_in (W.table.marks s)
 
--- the text of a state tells the state
+-- the text of a state has the whole state
 abbrev pub TextsTellStates : Type 0
 TextsTellStates = (V W : View) → IsOfKernel V → IsOfKernel W →
     (present V).width ≡ (present W).width → state_text V ≡ state_text W → TellsSame V W
 
--- where a process has ended, it stands at point 0 with the answer 0
+-- a process that has ended is at point 0 with the answer 0
 abbrev pub IsAtRest : Option ℕ → Regs → Type 0
 IsAtRest None registers = Unit {0}
 IsAtRest (Some status) registers = (registers.point ≡ 0) × (registers.ret ≡ pos 0)
 
--- each process that has ended does
+-- each ended process is at point 0 with the answer 0
 abbrev pub EndedRest : State → Type 0
 EndedRest S = (n : ℕ) (q : Process) → S.procs n ≡ Some q → IsAtRest q.status q.registers
 
@@ -130,8 +130,7 @@ abbrev pub RestingAreSame : Type 0
 RestingAreSame = (S T : State) → EndedRest S → EndedRest T →
     shown_state S ≡ shown_state T → (n : ℕ) → S.procs n ≡ T.procs n
 
--- what the law asks of a view is so of that of every lawful history from a booted state, but for the
--- types of its numbers
+-- the view of every lawful history from a booted state has what the law requires, but for the types of its numbers
 abbrev pub HistoriesAreOfKernel : Type 0
 HistoriesAreOfKernel = (width count : ℕ) (history : List Accepted) →
     1 ≤ count → count ≤ width → Lawful (boot_state width count) history →

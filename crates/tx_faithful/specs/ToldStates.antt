@@ -1,4 +1,4 @@
--- What JSON tells of a state.
+-- What JSON says of a state.
 use Rattle.std.specs.Prelude.{ℕ, zero, suc, ◌+◌, Bool, true, false, List, [], ◌∷◌, ◌++◌, map, Option, Some, None, if◌then◌else◌, nat_eq}
 use Rattle.tx_base.specs.declared.marks.Mark.{Mark}
 use Rattle.tx_faithful.specs.Told.{unsigned}
@@ -7,7 +7,7 @@ use Rattle.tx_model.specs.View.{View, present}
 use Rattle.tx_faithful.specs.ReadStates.{StateTold, TxnTold}
 use Rattle.tx_text.specs.Txns.{is_listed_in}
 
--- what stands at each number below a limit, one after another
+-- what is at each number below a limit, one after another
 unfoldable pub gathered : {A : Type 0} → (ℕ → List A) → ℕ → List A
 gathered more zero = []
 gathered more (suc limit) = gathered more limit ++ more limit

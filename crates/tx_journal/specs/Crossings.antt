@@ -11,15 +11,15 @@ use Rattle.tx_live.specs.declared.crossing.Crossing.{Crossing}
 use Rattle.tx_live.specs.declared.inverse.Inverse.{Inverse}
 use Rattle.tx_live.specs.declared.undone.Undone.{Undone}
 
--- what takes the entries back that are made, the oldest first; what makes those after them again, the next one first, as far as it is kept;
--- the changes on its stack; and for how many entries there is room
+-- what takes back the entries that are made, the oldest first; what is kept to make those after them again, the next one first; the changes
+-- on its stack; and for how many entries there is room
 pub record Crossed : Type 0 where
   pub inverses : List Inverse
   pub undone : List Undone
   pub stack : List Change
   pub room : ℕ
 
--- the places of entries that are made, of which there are so many, lead back
+-- the places of this many entries that are made lead back
 abbrev pub inverses_in : List Crossing → ℕ → List Inverse
 inverses_in places made = filter_map inverse_at (take made places)
 
@@ -30,7 +30,7 @@ undone_in places made = filter_map undone_at (drop made places)
 abbrev pub crossed_in : List Crossing → ℕ → List Change → ℕ → Crossed
 crossed_in places made stack room = record { inverses = inverses_in places made; undone = undone_in places made; stack = stack; room = room }
 
--- each of so many leads back, and each after them forward
+-- the first of them, this many, lead back, and those after them forward
 pub record IsParted (places : List Crossing) (made : ℕ) : Type 0 where
   pub count : length (inverses_in places made) ≡ made
   pub long : length places ≡ made + length (undone_in places made)
@@ -40,7 +40,7 @@ abbrev pub KeepsBack : Content → Content → Crossed → Crossed → Type 0
 KeepsBack before after old new =
     (new.undone ≡ []) ⊎ ((undone : Undone) × (new.undone ≡ undone ∷ old.undone) × IsTakenBack before undone new.stack after old.stack)
 
--- the newest entry that was made was taken back, which had this inverse
+-- the newest entry that was made, which had this inverse, was taken back
 pub record GoesBack (k : Content) (old : Crossed) (before : Content) (new : Crossed) (rest : List Inverse) (inverse : Inverse) : Type 0 where
   pub inverses : new.inverses ≡ rest
   pub back : (prior : Content) → Undoes k inverse prior → before ≡ prior

@@ -18,7 +18,7 @@ lives_to t (suc n) = one_if (is_live t (suc n)) + lives_to t n
 abbrev pub lives : Table → ℕ
 lives t = lives_to t t.width
 
--- the starter by whose number a mark of process p names a transaction, or would name it if p began one
+-- the starter whose transaction a mark of process p names, or would name if p began one
 abbrev pub starter_by : ℕ → Option Mark → ℕ
 starter_by p None = p
 starter_by p (Some m) = m.starter.0
@@ -29,7 +29,7 @@ starter_of t (Calls p call) = starter_by p.0 (t.marks p.0)
 starter_of t (Deliver p signo) = starter_by p.0 (t.marks p.0)
 starter_of t (KernelAbort s) = s.0
 
--- whether the step has its place from the sys_xbegin of the transaction that it aborts: the kernel's abort, and a member's
+-- whether the step's place was reserved at the sys_xbegin of the transaction that it aborts: so for the kernel's abort, and a member's
 abbrev pub has_place : Table → Step → Bool
 has_place t (Calls p SysXabort) = is_some (t.marks p.0)
 has_place t (Calls p call) = false

@@ -1,5 +1,4 @@
--- The history in which the steps of a committed transaction stand directly before the step that commits it, by the numbers of
--- its entries.
+-- The history in which the steps of a committed transaction are directly before the step that commits it, by the numbers of its entries.
 use Rattle.std.specs.Prelude.{true, ◌≡◌, ℕ, zero, suc, ◌+◌, ◌-◌, Bool, List, [], ◌∷◌, ◌++◌, Option, Some, None, length, map, option_map, reverse, take, drop, nat_lt, if◌then◌else◌}
 use Rattle.tx_base.specs.declared.steps.Accepted.{Accepted}
 use Rattle.tx_journal.specs.Entries.{accepted_of, entry_at, history_of}
@@ -23,7 +22,7 @@ with_own_number n p = record { own = n ∷ p.own; others = p.others }
 abbrev pub with_other_number : ℕ → Numbers → Numbers
 with_other_number n p = record { own = p.own; others = n ∷ p.others }
 
--- the numbers above n, so many of them, the greatest first
+-- this many numbers above n, the greatest first
 unfoldable pub numbers_above : ℕ → ℕ → List ℕ
 numbers_above n zero = []
 numbers_above n (suc count) = suc (count + n) ∷ numbers_above n count
@@ -35,11 +34,11 @@ numbers_parted S s (e ∷ h) =
     if begins_it s (role_in S e h) then record { own = suc (length h) ∷ []; others = numbers_above 0 (length h) }
     else (if is_step_of s (role_in S e h) then with_own_number (suc (length h)) (numbers_parted S s h) else with_other_number (suc (length h)) (numbers_parted S s h))
 
--- the numbers of the history in which the steps of the transaction of s stand directly before the one that commits it, the newest first
+-- the numbers of the history in which the steps of the transaction of s are directly before the one that commits it, the newest first
 abbrev pub moved_numbers : State → ℕ → List Accepted → List Accepted → List ℕ
 moved_numbers S s later h = numbers_above (suc (length h)) (length later) ++ suc (length h) ∷ (numbers_parted S s h).own ++ (numbers_parted S s h).others
 
--- what is told of a step that commits: the numbers, the oldest first, and whether the transaction may count as one moment
+-- what is answered for a step that commits: the numbers, the oldest first, and whether the transaction may count as one moment
 pub record Told : Type 0 where
   pub numbers : List ℕ
   pub one_moment : Bool
@@ -54,11 +53,11 @@ abbrev pub told_of : State → List Accepted → List Accepted → Option Told
 told_of S later [] = None
 told_of S later (e ∷ h) = told_by (role_in S e h) S later e h
 
--- what is told of the entry of a number; nothing where it is not there or commits no transaction
+-- what is answered for the entry of a number; none if there is no such entry or it commits no transaction
 abbrev pub moved_at : State → List Accepted → ℕ → Option Told
 moved_at S h k = if nat_lt (length h) k then None else told_of S (take (length h - k) h) (drop (length h - k) h)
 
--- what an answer tells
+-- what an answer says
 abbrev pub told_in : Moved → Told
 told_in m = record { numbers = m.entries.items; one_moment = m.one_moment }
 
@@ -66,8 +65,8 @@ told_in m = record { numbers = m.entries.items; one_moment = m.one_moment }
 abbrev pub entries_named : List Entry → List ℕ → List (Option Accepted)
 entries_named entries numbers = map (λ n. option_map accepted_of (entry_at entries n)) numbers
 
--- what is answered of the entry of a number, which commits a transaction: the numbers name the entries of the history with its steps moved,
--- and it is told whether it may count as one moment; where it may, that history leaves the same, with the same replies
+-- the answer for the entry of a number that commits a transaction: the numbers name the entries of the history with its steps moved, and it
+-- says whether the transaction may count as one moment; if so, that history leaves the same, with the same replies
 pub record IsMoved (k : SessionState) (number : ℕ) (m : Moved) : Type 0 where
   pub told : moved_at (start_of k) (history_of k.entries) number ≡ Some (told_in m)
   pub starter : ℕ

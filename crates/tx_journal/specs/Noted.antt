@@ -1,4 +1,4 @@
--- What the notes of a history tell of the entries that are to stand together.
+-- What the notes of a history say of the entries to put together.
 use Rattle.std.specs.Prelude.{ℕ, suc, Bool, true, false, not, ◌&&◌, ◌==◌, List, [], ◌∷◌, Option, Some, None, length, map, reverse, if◌then◌else◌}
 use Rattle.tx_base.specs.declared.steps.Accepted.{Accepted}
 use Rattle.tx_journal.specs.Moved.{Numbers, numbers_above, with_other_number, with_own_number}
@@ -11,7 +11,7 @@ unfoldable pub notes_in : State → List Accepted → List Noted
 notes_in S [] = []
 notes_in S (e ∷ h) = note_of S e h ∷ notes_in S h
 
--- notes of which the oldest is the first, the newest first
+-- notes that begin with the oldest, the newest first
 abbrev pub noted_back : List Note → List Noted
 noted_back notes = reverse (map noted notes)
 
@@ -34,7 +34,7 @@ parted_by s (n ∷ ns) =
     if begins_its s n then record { own = suc (length ns) ∷ []; others = numbers_above 0 (length ns) }
     else (if is_starter s n.starter then with_own_number (suc (length ns)) (parted_by s ns) else with_other_number (suc (length ns)) (parted_by s ns))
 
--- no step of the transaction of s, back to its first, tells its moment
+-- no step of the transaction of s, back to its first, shows its moment
 unfoldable pub is_silent_by : ℕ → List Noted → Bool
 is_silent_by s [] = true
 is_silent_by s (n ∷ ns) =

@@ -11,8 +11,8 @@ use Rattle.tx_model.specs.View.{View, event_on, present, role_on}
 use Rattle.tx_reserve.specs.Reservations.{number_of}
 use Rattle.tx_journal.specs.declared.notes.Note.{Note}
 
--- what a step is to its transaction: who started that one, if the step is of one; whether the step is its first; whether the
--- step commits it; and whether it tells that one's moment
+-- what a step is to its transaction: who started it, if the step is of one; whether the step is its first; whether the step commits it; and
+-- whether it shows its moment
 pub record Noted : Type 0 where
   pub starter : Option ℕ
   pub begins : Bool
@@ -46,7 +46,7 @@ commits_one (Within s progress) = false
 commits_one (Commits s) = true
 commits_one (Aborts s status) = false
 
--- whether the step tells the moment of the transaction of this starter; false where there is none
+-- whether the step shows the moment of the transaction of this starter; false if there is none
 abbrev pub tells_of : Option ℕ → State → Accepted → List Accepted → Bool
 tells_of None S e h = false
 tells_of (Some s) S e h = tells_moment S s e h
@@ -68,13 +68,13 @@ noted note = record { starter = option_map number_of note.starter; begins = note
 abbrev pub IsNoteOf : State → Accepted → List Accepted → Note → Type 0
 IsNoteOf S e h note = noted note ≡ note_of S e h
 
--- whether a step of process p, which looks at its signals or not, and with which this is posted, tells the moment of the
--- transaction of this starter
+-- whether a step of process p, which looks at its signals or not and with which this is posted, shows the moment of the transaction of this
+-- starter
 abbrev pub tells_by : Option ℕ → ℕ → Bool → List Sending → Bool
 tells_by None p looks ms = false
 tells_by (Some s) p looks ms = (p == s && looks) || is_sent_to s ms
 
--- the same as the note of a step, by what the step is to the transactions
+-- the same as the note of a step, by its role
 abbrev pub noted_by : Role → ℕ → Bool → List Sending → Noted
 noted_by role p looks ms = record { starter = starter_by role; begins = begins_one role; commits = commits_one role; tells = tells_by (starter_by role) p looks ms }
 

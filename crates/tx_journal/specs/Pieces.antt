@@ -8,7 +8,7 @@ use Rattle.tx_text.specs.Pieces.{fd_of, ids_of, page_of, pending_of, queue_of}
 use Rattle.tx_text.specs.Processes.{process_lines}
 use Rattle.tx_text.specs.Txns.{txn_lines}
 
--- the lines of a piece, as the text of the state has them: none where it is not there
+-- the lines of a piece, as the text of the state has them: none if there is no such piece
 abbrev pub piece_text : Piece → View → List ℕ
 piece_text (Proc p) V = process_lines p.0 ((present V).procs p.0)
 piece_text (Page p number) V = page_of number ((present V).procs p.0)

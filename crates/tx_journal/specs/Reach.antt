@@ -13,17 +13,17 @@ use Rattle.tx_model.specs.Membership.{Table}
 use Rattle.tx_model.specs.State.{Object, Proc, Desc, Pipe, has_object}
 use Rattle.tx_model.specs.View.{View, present}
 
--- a mark, where it is one of the transaction of s
+-- a mark, if it is one of the transaction of s
 abbrev pub own_mark : ℕ → Option Mark → Option Mark
 own_mark s None = None
 own_mark s (Some m) = if m.starter.0 == s then Some m else None
 
--- the table of its members alone
+-- the table with only its members
 abbrev pub own_table : ℕ → Table → Table
 own_table s t = record t { marks = λ n. own_mark s (t.marks n) }
 
 module _ (V : View) (step : Step) where
-  -- whether the step names the object, as it does where no other transaction is live: so each process that it sends a signal is among what it names
+  -- whether the step names the object, as if no other transaction were live: so each process that it sends a signal is among what it names
   abbrev pub is_named : Object → Bool
   is_named o = has_object o (footprint (own_table (starter_of V.table step) V.table) step (present V))
 
@@ -34,7 +34,7 @@ module _ (V : View) (step : Step) where
   abbrev pub may_change : Object → Bool
   may_change o = is_named o || is_given_up o
 
-  -- whether it may change the lines of a piece: those of an object, or of the transaction that it is a step of
+  -- whether it may change the lines of a piece: an object's, or those of the transaction that it is a step of
   abbrev pub is_reached : Piece → Bool
   is_reached (pieces.Proc p) = may_change (Proc p.0)
   is_reached (pieces.Page p number) = may_change (Proc p.0)
@@ -50,7 +50,7 @@ module _ (V : View) (step : Step) where
   abbrev pub reached_pieces : List Piece
   reached_pieces = filter is_reached (state_pieces V.table.width)
 
--- some pieces of a state, in its order: each other one has the same lines in both views
+-- some pieces of a state, in its order: every other one has the same lines in both views
 pub record CoverChanges (V W : View) (some : List Piece) : Type 0 where
   pub chosen : Piece → Bool
   pub are : some ≡ filter chosen (state_pieces V.table.width)

@@ -13,13 +13,13 @@ use Rattle.tx_live.specs.declared.content.Content.{Content}
 use Rattle.tx_live.specs.declared.inverse.Inverse.{Inverse}
 use Rattle.tx_model.specs.Membership.{Table}
 
--- the same is in it
+-- it has the same in it
 pub record SameRecord (new old : Journal) : Type 0 where
   pub entries : new.entries.items ≡ old.entries.items
   pub crossings : SameCrossed new.crossings old.crossings
   pub live : new.live ≡ old.live
 
--- there is room for so many entries more, and for what takes them back
+-- there is room for this many more entries, and for what takes them back
 pub record HasPlaces (j : Journal) (count : ℕ) : Type 0 where
   pub entries : length j.entries.items + count ≤ vec_capacity j.entries
   pub inverses : length j.entries.items + count ≤ j.crossings.room

@@ -8,21 +8,21 @@ use Rattle.tx_journal.specs.declared.rows.Row.{Row}
 use Rattle.tx_journal.specs.declared.rows.Row.TheVariants.{Procs, Descs, Pipes, Txns}
 use Rattle.tx_model.specs.View.{View}
 
--- the piece of a row that comes after so many
+-- the piece of a row that comes after this many
 abbrev pub piece_in : Row → ℕ → Piece
 piece_in Procs n = pieces.Proc (record { 0 = n + 1 })
 piece_in Descs n = pieces.Desc (record { 0 = n })
 piece_in Pipes n = pieces.Pipe (record { 0 = n })
 piece_in Txns n = pieces.Txn (record { 0 = n + 1 })
 
--- how many a row has, where there are so many process numbers
+-- how many a row has, with this many process numbers
 abbrev pub limit_of : Row → ℕ → ℕ
 limit_of Procs width = width
 limit_of Descs width = DESCRIPTIONS
 limit_of Pipes width = PIPES
 limit_of Txns width = width
 
--- the first so many of a row
+-- the first of a row, this many
 unfoldable pub first_pieces : Row → ℕ → List Piece
 first_pieces row zero = []
 first_pieces row (suc n) = first_pieces row n ++ piece_in row n ∷ []

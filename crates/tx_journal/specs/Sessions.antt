@@ -1,4 +1,4 @@
--- What a session keeps, and what is so of it.
+-- What a session keeps, and what holds for it.
 use Rattle.std.specs.Prelude.{◌≡◌, ◌⊎◌, ℕ, ◌+◌, ◌≤◌, List, drop, length, map, reverse, take}
 use Rattle.tx_base.specs.declared.steps.Accepted.{Accepted}
 use Rattle.tx_change.specs.declared.change.Change.{Change}
@@ -15,8 +15,8 @@ use Rattle.tx_model.specs.Answer.{Lawful}
 use Rattle.tx_model.specs.History.{table_of}
 use Rattle.tx_model.specs.State.{State, boot_state}
 
--- the machine's content; all entries, the oldest first; what takes those back that are made, the oldest first; and how many processes there
--- may be, and with how many it was booted
+-- the machine's content; all entries, the oldest first; what takes back those that are made, the oldest first; how many processes there may
+-- be, and with how many it was booted
 pub record SessionState : Type 0 where
   pub machine : Content
   pub entries : List Entry
@@ -49,16 +49,16 @@ pub record IsJournal (k : SessionState) : Type 0 where
   pub lawful : Lawful (start_of k) (history_of k.entries)
   pub walks : WalksBack (start_of k) k.machine (reverse k.inverses) (history_of (made_of k))
 
--- the entries that are to be made again, the next one first
+-- the entries that can be made again, the next one first
 abbrev pub later_of : SessionState → List Accepted
 later_of k = map accepted_of (drop (position_of k) k.entries)
 
--- what is kept makes the entries again that follow, the next one first
+-- what is kept makes the following entries again, the next one first
 abbrev pub IsAhead : SessionState → List Undone → List Change → Type 0
 IsAhead k undone stack = WalksOn (start_of k) k.machine undone stack (history_of (made_of k)) (later_of k)
 
--- where so many transactions are counted, at least those that are live after the last entry, and there is room for so many entries and
--- places for so many inverses: there is room for the abort of each of them
+-- given how many transactions are counted, at least those live after the last entry, and for how many entries and inverses there is room:
+-- there is room for the abort of each
 pub record HasRoom (k : SessionState) (live room places : ℕ) : Type 0 where
   pub counted : lives (table_of (start_of k) (history_of k.entries)) ≤ live
   pub entries : length k.entries + live ≤ room
@@ -68,16 +68,16 @@ pub record HasRoom (k : SessionState) (live room places : ℕ) : Type 0 where
 abbrev pub IsAtEnd : SessionState → Type 0
 IsAtEnd k = position_of k ≡ length k.entries
 
--- the one was booted as the other was
+-- both were booted alike
 pub record SameBoot (new old : SessionState) : Type 0 where
   pub width : new.width ≡ old.width
   pub count : new.count ≡ old.count
 
--- the one has the entries of the other, and was booted as it was: they differ in their position at most
+-- both have the same entries and were booted alike: they differ at most in position
 pub record SameJournal (new old : SessionState) : Type 0 where
   pub entries : new.entries ≡ old.entries
   pub boot : SameBoot new old
 
--- a position lies between two others, or is one of them
+-- a position is between two others, or is one of them
 abbrev pub IsBetween : ℕ → ℕ → ℕ → Type 0
 IsBetween from at to = ((from ≤ at) × (at ≤ to)) ⊎ ((to ≤ at) × (at ≤ from))

@@ -18,14 +18,14 @@ pub record Numbered : Type 0 where
 abbrev pub numbered : Touch → Numbered
 numbered touch = record { number = touch.number; step = touch.step.now }
 
--- the first step since which the transaction of s has reserved the object, after each step up to now: before that one it had not. Nothing where
--- it has not reserved it now
+-- the first step since which the transaction of s has reserved the object, after each step up to now: before that one it had not. None if it
+-- has not reserved it now
 unfoldable pub first_touch : State → List Accepted → ℕ → Object → Option Numbered
 first_touch S [] s o = None
 first_touch S (e ∷ h) s o =
     if reserved_of S (e ∷ h) s o then (if reserved_of S h s o then first_touch S h s o else Some (record { number = suc (length h); step = e.step })) else None
 
--- whether it was a step of the transaction of s before which that had not reserved the object
+-- whether it was a step of the transaction of s before which the transaction had not reserved the object
 abbrev pub comes_first : ℕ → Object → Inverse → Bool
 comes_first s o (Outside log post) = false
 comes_first s o (Inside starter count before marked held) = starter.0 == s && not (is_in before o)
@@ -33,7 +33,7 @@ comes_first s o (Begun starter) = starter.0 == s
 comes_first s o (Committed boxed count held) = false
 comes_first s o (Aborted boxed stood) = false
 
--- the newest of such steps, by what takes each step of a history back. Both lists have the newest one first
+-- the newest such step, by what takes back each step of a history. Both lists have the newest first
 unfoldable pub newest_first : ℕ → Object → List Inverse → List Accepted → Option Numbered
 newest_first s o [] h = None
 newest_first s o (inverse ∷ inverses) [] = None

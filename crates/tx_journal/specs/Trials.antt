@@ -10,7 +10,7 @@ use Rattle.tx_model.specs.Schedules.{history_with}
 use Rattle.tx_model.specs.State.{State}
 use Rattle.tx_model.specs.View.{View, view}
 
--- the view of a history after which a step was made, if it was accepted
+-- the view after a history and one more step, if it was accepted
 abbrev pub view_with : State → List Accepted → Step → View
 view_with start h step = view start (history_with h step (answer (view start h) step))
 

@@ -23,8 +23,8 @@ WalksBack start k (inverse ∷ inverses) (e ∷ earlier) =
     (view_of k ≡ view start (e ∷ earlier)) × LeadsBack k inverse × ((before : Content) × Undoes k inverse before × WalksBack start before inverses earlier)
     × EndsWhole k inverse
 
--- what makes entries again that were taken back, the next one first, with its changes on top of the stack: each leads a machine that keeps
--- this to what has the view of one entry more. No more of them are kept than entries follow
+-- what makes again entries that were taken back, the next one first, with its changes on top of the stack: each leads a machine that keeps
+-- this to what has the view of one more entry. No more of these are kept than entries follow
 unfoldable pub WalksOn : State → Content → List Undone → List Change → List Accepted → List Accepted → Type 0
 WalksOn start k [] stack made later = Unit {0}
 WalksOn start k (undone ∷ rest) stack made [] = ⊥

@@ -14,16 +14,16 @@ use tx_change::Change;
 use tx_core::Machine;
 use tx_live::{Crossing, Inverse};
 
-/// What leads over the entries of a session: back over those that are made, and forward over those after
-/// them, as far as that is kept. Contracts see what takes the former back, what makes the latter again
-/// with the stack of their changes, and for how many entries there is room.
+/// What leads over the entries of a session: back over those that are made, and forward over those
+/// after them, as far as that is kept. Contracts see what takes back the former, what makes the
+/// latter again with the stack of their changes, and for how many entries there is room.
 #[derive(Drop)]
 pub(crate) struct Crossings {
     /// The place of each entry that is made, the oldest first, and of those after them that are kept.
     places: Vec<Crossing>,
     /// How many entries are made.
     made: usize,
-    /// The changes of those that are kept and were made inside of transactions or committed one.
+    /// The changes of those that are kept and that were made inside transactions or committed one.
     stack: Vec<Change>,
 }
 
@@ -59,7 +59,7 @@ impl Crossings {
         self.made
     }
 
-    /// What takes the entry of a place back. Nothing where it is not made, or there is none.
+    /// What takes back the entry of a place. None if it is not made, or there is none.
     pub fn inverse(&self, place: usize) -> Option<&Inverse>
         ensures { option_copied result ≡ slice_get self.now.inverses place }
     {
@@ -79,7 +79,7 @@ impl Crossings {
         self.made < self.places.len()
     }
 
-    /// Makes room for so many entries more.
+    /// Makes room for this many more entries.
     ///
     /// NoMemory where a growth is refused.
     pub fn reserve(&mut self, count: usize) -> Result<(), NoMemory>
@@ -104,7 +104,7 @@ impl Crossings {
         Ok(())
     }
 
-    /// Adds the inverse of an entry that is made, where nothing is kept of entries after it.
+    /// Adds the inverse of an entry that is made. Nothing may be kept of entries after it.
     pub fn push(&mut self, inverse: Inverse)
         requires none { self.old.undone ≡ [] }
         requires room { length self.old.inverses < self.old.room }
@@ -116,7 +116,7 @@ impl Crossings {
         self.made += 1;
     }
 
-    /// Lets go of what is kept of entries that are not made.
+    /// Drops what is kept of entries that are not made.
     pub fn cut(&mut self)
         ensures inverses { self.new.inverses ≡ self.old.inverses }
         ensures undone { self.new.undone ≡ [] }
@@ -126,10 +126,10 @@ impl Crossings {
         self.stack.clear();
     }
 
-    /// Takes the newest entry back that is made, and keeps what makes it again, if there is room for that;
+    /// Takes back the newest entry that is made, and keeps what makes it again, if there is room;
     /// else it keeps nothing at all, since what was taken back before goes on from there.
     ///
-    /// `AtStart` where none is made, with nothing changed.
+    /// `AtStart` if none is made; nothing has changed then.
     pub fn back(&mut self, machine: &mut Machine) -> Result<(), AtStart>
         requires leads { (rest : List TheInverse) (inverse : TheInverse) →
             self.old.inverses ≡ rest ++ inverse ∷ [] → LeadsBack machine.old inverse }
@@ -154,7 +154,7 @@ impl Crossings {
         Ok(())
     }
 
-    /// Takes the newest entry back that is made, where nothing is kept of entries after it, and keeps
+    /// Takes back the newest entry that is made, if nothing is kept of entries after it, and keeps
     /// nothing of it.
     fn undo(&mut self, machine: &mut Machine)
         requires none { self.old.undone ≡ [] }
@@ -196,8 +196,8 @@ impl Crossings {
     }
 }
 
-/// How many changes go onto the stack where these are taken back; the most there may be where they are
-/// more.
+/// How many changes go onto the stack if these are taken back, or the most there may be if that is
+/// less.
 fn moved_over(crossings: &[Crossing]) -> usize {
     let mut count: usize = 0;
     for crossing in crossings {

@@ -1,4 +1,4 @@
-//! Lets go of the entries after the position.
+//! Drops the entries after the position.
 ghost use Rattle.std.specs.Prelude.{◌≡◌};
 ghost use Rattle.tx_journal.specs.Lives.{lives};
 ghost use Rattle.tx_journal.specs.Sessions.{IsAtEnd, SameBoot, made_of};
@@ -10,8 +10,8 @@ use tx_base::Pid;
 use tx_core::Machine;
 
 impl Session {
-    /// Lets go of the entries after the position, as an editor does where something new follows an
-    /// undo: the session is at its end then. The machine stays as it is. It takes no memory.
+    /// Drops the entries after the position, as an editor does when something new follows an undo:
+    /// the session is at its end then. The machine stays as it is. It takes no memory.
     pub fn cut(&mut self)
         ensures entries { self.new.entries ≡ made_of self.old }
         ensures inverses { self.new.inverses ≡ self.old.inverses }
@@ -20,7 +20,7 @@ impl Session {
         ensures at_end { IsAtEnd self.new }
     {
         let position = self.position();
-        // More may be live here than after the last entry, of which the journal keeps the count.
+        // More may be live here than after the last entry, whose count the journal keeps.
         self.journal.live = live_count(&self.machine);
         self.journal.entries.truncate(position);
         self.journal.crossings.cut();

@@ -28,10 +28,10 @@ pub enum GotoFault {
     NoMemory,
 }
 
-/// Why no history is told in which the steps of a transaction stand together.
+/// Why there is no history in which the steps of a transaction are together.
 #[derive(Clone, Copy, PartialEq, Eq, Debug, Error)]
 pub enum MovedFault {
-    /// The entry commits no transaction, or is not there.
+    /// The entry commits no transaction, or does not exist.
     #[error("no commit")]
     NotCommit,
     /// A growth of memory was refused.

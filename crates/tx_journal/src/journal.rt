@@ -15,7 +15,7 @@ pub(crate) struct Journal {
     /// All entries, the oldest first.
     pub entries: Vec<Entry>,
     pub crossings: Crossings,
-    /// How many transactions are live after the last entry, or more: each has room for its abort.
+    /// At least as many as are live after the last entry: each has room for its abort.
     pub live: usize,
 }
 
@@ -51,7 +51,7 @@ impl Journal {
         self.grow(count)
     }
 
-    /// Makes room for so many entries more, where all are made.
+    /// Makes room for this many entries more, where all are made.
     ///
     /// NoMemory where a growth is refused; the journal is then as it was.
     pub fn grow(&mut self, count: usize) -> Result<(), NoMemory>
@@ -66,8 +66,8 @@ impl Journal {
         self.crossings.reserve(count)
     }
 
-    /// Adds the entry of a step that is made, where it was and is so many times live, and nothing is kept
-    /// of entries that were taken back. The step is moved there, and leaves a getpid in its place.
+    /// Adds the entry of a step that is made. Nothing may be kept of entries that were taken back.
+    /// The step moves there and leaves a getpid in its place.
     #[inline(always)] // as `record`
     pub fn add(&mut self, worker: u16, step: &mut Step, reply: &Reply, inverse: Inverse)
         requires none { self.old.crossings.undone ≡ [] }
@@ -85,7 +85,7 @@ impl Journal {
         self.crossings.push(inverse); // first: behind the entry it would be moved twice
         let step = mem::replace(step, Step::Call(Pid(0), Call::Getpid));
         match reply {
-            // Most replies are so, and have few bytes.
+            // Most replies are such, and have few bytes.
             Reply::Done(ret) => self.entries.push_reserved(Entry {
                 step,
                 worker,

@@ -1,10 +1,10 @@
-//! The laws that a session stands on.
+//! The laws that the proofs of sessions use.
 ghost use Rattle.tx_journal.specs.Laws.{SessionLaws};
 
 use tx_laws::{erasure, next_view, step_by_step};
 use tx_moment::one_moment;
 
-/// The laws on which the proofs of a session stand. It does nothing.
+/// The laws that the proofs of sessions use. It does nothing.
 pub(crate) fn laws()
     ensures { SessionLaws }
 {

@@ -20,8 +20,9 @@ use tx_base::{Call, NoMemory, Pid, Refusal, Reply, Step};
 use tx_core::{Machine, NoTransaction};
 use tx_live::Inverse;
 
-/// Makes a step, puts its reply where it is to stand, and moves it into its entry where it was accepted. The
-/// place of the entry is reserved first, but for an abort, which has its own. Answers whether it was.
+/// Makes a step, puts its reply into the caller's place, and moves it into its entry if it was
+/// accepted. The entry's place is reserved first, except for an abort, which has its own. Answers
+/// whether it was accepted.
 #[inline(always)] // calls here and below would cost each step their arguments, some 30 instructions
 pub(crate) fn record(
     alloc: Global,
@@ -57,7 +58,7 @@ pub(crate) fn record(
     make(alloc, machine, journal, worker, step, reply)
 }
 
-/// Makes room for the entry of a step, unless it has its place.
+/// Makes room for the entry of a step, unless it has a place.
 ///
 /// NoMemory where a growth is refused; the journal is then as it was.
 fn prepare(machine: &Machine, journal: &mut Journal, step: &Step) -> Result<(), NoMemory>
@@ -75,8 +76,8 @@ fn prepare(machine: &Machine, journal: &mut Journal, step: &Step) -> Result<(), 
     journal.reserve()
 }
 
-/// Makes a step, puts its reply where it is to stand, and moves it into its entry where it was accepted:
-/// there must be room. Answers whether it was.
+/// Makes a step, puts its reply into the caller's place, and moves it into its entry if it was
+/// accepted: there must be room. Answers whether it was accepted.
 #[inline(always)] // as `record`
 fn make(
     alloc: Global,
@@ -117,10 +118,10 @@ fn make(
     true
 }
 
-/// Aborts a starter's live transaction as the kernel does, and adds its entry, which has its place from
-/// the sys_xbegin. It takes no memory.
+/// Aborts a starter's live transaction as the kernel does, and adds its entry, whose place was
+/// reserved at the sys_xbegin. It takes no memory.
 ///
-/// `NoTransaction` where the starter has no live transaction, with nothing changed.
+/// `NoTransaction` if the starter has no live transaction; nothing has changed then.
 pub(crate) fn abort(
     machine: &mut Machine,
     journal: &mut Journal,
@@ -150,8 +151,8 @@ pub(crate) fn abort(
     Ok(())
 }
 
-/// Whether a step has its place from the sys_xbegin of the transaction that it aborts: the kernel's
-/// abort, and a member's sys_xabort.
+/// Whether a step's place was reserved at the sys_xbegin of the transaction that it aborts: so for
+/// the kernel's abort and a member's sys_xabort.
 pub(crate) fn has_place(machine: &Machine, step: &Step) -> bool
     ensures { result ≡ has_place (view_of machine.now).table step.now }
 {
@@ -162,7 +163,7 @@ pub(crate) fn has_place(machine: &Machine, step: &Step) -> bool
     }
 }
 
-/// Whose transaction a step may begin or end, and whether he has a live one before it.
+/// Whose transaction a step may begin or end, and whether there is a live one before it.
 #[inline(always)] // as `record`
 pub(crate) fn starter_before(machine: &Machine, step: &Step) -> (Pid, bool)
     ensures starter { result.0.0 ≡ starter_of (view_of machine.now).table step.now }
@@ -175,8 +176,8 @@ pub(crate) fn starter_before(machine: &Machine, step: &Step) -> (Pid, bool)
     }
 }
 
-/// The starter of the live transaction that a process is a member of, and the process where it is none; and
-/// whether that has a live one.
+/// The starter of the live transaction that a process is a member of, or the process if it is none;
+/// and whether that has a live one.
 #[inline(always)] // as `record`
 fn starter_by(machine: &Machine, pid: Pid) -> (Pid, bool)
     ensures starter { result.0.0 ≡ starter_by pid.0 ((view_of machine.now).table.marks pid.0) }
@@ -195,7 +196,7 @@ pub(crate) fn is_live(machine: &Machine, starter: Pid) -> bool
     machine.txn_of(starter) == Some(starter)
 }
 
-/// How many transactions are live, after a step that left one so that was so, or not.
+/// How many transactions are live after a step that left this one live or not.
 fn live_after(live: usize, was: bool, is: bool) -> usize
     requires some { was ≡ true → 1 ≤ live }
     requires fits { is ≡ true → live + 1 < 2 ^ 64 }

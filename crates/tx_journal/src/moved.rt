@@ -1,4 +1,4 @@
-//! The history in which the steps of a committed transaction stand together.
+//! The history in which the steps of a committed transaction are together.
 ghost use Rattle.std.specs.Prelude.{◌≡◌, ◌≤◌, IfOk, None, Err, option_map};
 ghost use Rattle.tx_journal.specs.Entries.{history_of};
 ghost use Rattle.tx_journal.specs.Moved.{IsMoved, moved_at, told_in};
@@ -17,8 +17,8 @@ use crate::session::Session;
 use std::alloc::Global;
 use tx_base::NoMemory;
 
-/// A history in which the earlier steps of a transaction stand, in their order, directly before the step
-/// that commits it. All other steps stay in their order.
+/// A history in which the earlier steps of a transaction are directly before the step that commits
+/// it, in their order. All other steps stay in their order.
 #[derive(Drop)]
 pub struct Moved {
     /// The numbers of all entries, in the order of that history.
@@ -29,11 +29,11 @@ pub struct Moved {
 }
 
 impl Session {
-    /// The history in which the steps of the transaction that the entry of that number commits stand
+    /// The history in which the steps of the transaction that the entry of that number commits are
     /// together. It makes the steps up to that entry once more, on a kernel of its own.
     ///
-    /// `NotCommit` where the entry commits no transaction, or is not there. `NoMemory` where a growth is
-    /// refused.
+    /// `NotCommit` if the entry commits no transaction, or does not exist. `NoMemory` where a
+    /// growth is refused.
     pub fn moved(&self, alloc: Global, number: usize) -> Result<Moved, MovedFault>
         ensures moved { IfOk result (IsMoved self.now number) }
         ensures not_commit { result ≡ Err fault.NotCommit →
@@ -47,8 +47,8 @@ impl Session {
         }
     }
 
-    /// What `moved` answers; nothing where the entry of that number commits no transaction, or is not
-    /// there.
+    /// What `moved` answers; none if the entry of that number commits no transaction, or does not
+    /// exist.
     fn told(&self, alloc: Global, number: usize) -> Result<Option<Moved>, NoMemory>
         ensures { IfOk result (λ moved.
             option_map told_in moved
@@ -73,7 +73,7 @@ impl Session {
     }
 }
 
-/// What each step is to its transaction, the oldest first. A kernel that was booted so makes them once
+/// What each step is to its transaction, the oldest first. A kernel booted alike makes them once
 /// more.
 ///
 /// NoMemory where a growth is refused.

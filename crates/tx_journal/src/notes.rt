@@ -21,18 +21,18 @@ use tx_step::{StepRole, actor_of, is_running, role_of_call, role_of_delivery};
 /// What a step of a history is to its transaction.
 #[derive(Clone, Copy)]
 pub struct Note {
-    /// Who started the transaction that the step is of; nothing where it is of none.
+    /// Who started the transaction that the step is of; none if it is of none.
     pub starter: Option<Pid>,
     /// Whether the step is the first one of that transaction.
     pub begins: bool,
     /// Whether the step commits that transaction.
     pub commits: bool,
-    /// Whether the step tells when that transaction is made: its starter looks at its signals, or
+    /// Whether the step shows when that transaction is made: its starter looks at its signals, or
     /// something that is posted with the step goes to the starter.
     pub tells: bool,
 }
 
-/// What a step is to its transaction. Nothing where its process does not run. It takes no memory.
+/// What a step is to its transaction. None if its process does not run. It takes no memory.
 pub(crate) fn note_of(content: &Content, step: &Step) -> Option<Note>
     requires { IsContent content.now }
     ensures { IfSome result (λ note. IsNoteOn (view_of content.now) step.now note) }
@@ -86,8 +86,8 @@ fn note_of_kernel_abort(content: &Content, starter: Pid) -> Note
     }
 }
 
-/// What a step of a process is to its transaction, where it is this to the transactions, looks at the
-/// signals or not, and sends this first.
+/// What a step of a process is to its transaction, if this is its role, it looks at the signals or
+/// not, and it sends this first.
 fn note_by(content: &Content, pid: Pid, role: StepRole, looks: bool, first: &Sends) -> Note
     ensures { noted result
         ≡ noted_by (role_as pid.0 role) pid.0 looks (posted_with content.now role first.now) }

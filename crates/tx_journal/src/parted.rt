@@ -16,19 +16,19 @@ pub(crate) struct Parted {
     pub own: Vec<usize>,
     /// All others.
     pub others: Vec<usize>,
-    /// Whether none of the first tells the transaction's moment.
+    /// Whether none of the first shows the transaction's moment.
     pub silent: bool,
 }
 
-/// The starter of the transaction that a step commits. Nothing where it commits none.
+/// The starter of the transaction that a step commits. None if it commits none.
 pub(crate) fn commit_of(note: &Note) -> Option<Pid>
     ensures { option_map number_of result ≡ commit_of (noted note.now) }
 {
     if note.commits { note.starter } else { None }
 }
 
-/// Parts the entries of the steps that are noted so, for the transaction of the starter that lives
-/// after the last of them.
+/// Parts the entries of the noted steps, for the transaction of the starter that lives after the
+/// last of them.
 ///
 /// An error where a growth of memory is refused.
 pub(crate) fn part(alloc: Global, notes: &[Note], starter: Pid) -> Result<Parted, AllocError>
@@ -76,8 +76,8 @@ fn begins_its(note: &Note, starter: Pid) -> bool
     note.begins && is_by(note, starter)
 }
 
-/// The numbers of all entries, of which there are so many, where the entries of a transaction stand
-/// directly before the one of that number, which commits it.
+/// The numbers of this many entries, with the entries of a transaction directly before the one of
+/// that number, which commits it.
 ///
 /// An error where a growth of memory is refused.
 pub(crate) fn join(
@@ -100,7 +100,7 @@ pub(crate) fn join(
     Ok(entries)
 }
 
-/// Adds the numbers from one down to another, without that.
+/// Adds the numbers from one down to another, without the latter.
 ///
 /// An error where a growth of memory is refused.
 fn push_down(numbers: &mut Vec<usize>, from: usize, to: usize) -> Result<(), AllocError>

@@ -36,7 +36,7 @@ pub enum Piece {
     Txn(Pid),
 }
 
-/// The lines of each of some pieces of a machine's state: none of one that is not there.
+/// The lines of each of some pieces of a machine's state: none for one that does not exist.
 ///
 /// NoMemory where a growth is refused.
 pub fn print_pieces(
@@ -64,8 +64,8 @@ fn print_piece(alloc: Global, machine: &Machine, piece: Piece) -> Result<String,
     Ok(text)
 }
 
-/// Appends the lines of a piece of a machine's state: none where it is not there. The only error is
-/// that a growth of memory was refused: some of them may then stand behind the text.
+/// Appends the lines of a piece of a machine's state: none if it does not exist. The only error is
+/// that a growth of memory was refused: the text may then end in some of them.
 pub fn put_piece(text: &mut String, machine: &Machine, piece: Piece) -> Result<(), AllocError>
     ensures { OnOk result
         (string_bytes text.new ≡ string_bytes text.old ++ piece_text piece (view_of machine.now)) }

@@ -11,8 +11,8 @@ use tx_kernel::Sends;
 use tx_live::Content;
 use tx_step::StepRole;
 
-/// Whether something that is posted with a step goes to the process: what the step sends at once; and
-/// where it commits, what is held then, and what it hands out itself.
+/// Whether something that is posted with a step goes to the process: what the step sends at once;
+/// and if it commits, what is held then, and what it hands out.
 #[tactic(auto, using(crate::proofs::PostedTo::sent_of_both))]
 pub(crate) fn is_posted_to(content: &Content, role: StepRole, first: &Sends, pid: Pid) -> bool
     ensures { result ≡ is_sent_to pid.0 (posted_with content.now role first.now) }
@@ -25,8 +25,8 @@ pub(crate) fn is_posted_to(content: &Content, role: StepRole, first: &Sends, pid
     }
 }
 
-/// Whether a commit posts something to the process: what the transaction of the starter holds, and last
-/// what the step itself hands out.
+/// Whether a commit posts something to the process: what the transaction of the starter holds, and
+/// last what the step hands out.
 #[tactic(auto, using(crate::proofs::PostedTo::sent_of_both))]
 fn is_sent_at_commit(content: &Content, starter: Pid, first: &Sends, pid: Pid) -> bool
     ensures { result ≡ is_sent_to pid.0
@@ -45,7 +45,7 @@ fn is_sent_at_once(first: &Sends, pid: Pid) -> bool
     }
 }
 
-/// Whether the step hands something out that is for the process.
+/// Whether the step hands out something for the process.
 fn is_handed_out(first: &Sends, pid: Pid) -> bool
     ensures { result ≡ is_sent_to pid.0 (sent_at_commit first.now) }
 {

@@ -1,4 +1,4 @@
-//! Tells what a step may change of the state.
+//! What a step may change of the state.
 ghost use Rattle.std.specs.Prelude.{◌≡◌, ℕ, IfOk, true};
 ghost use Rattle.tx_base.specs.Slots.{slot_at};
 ghost use Rattle.tx_base.specs.declared.steps.Step.{Step as TheStep};
@@ -17,11 +17,11 @@ use tx_reserve::{Object, Objects, footprint};
 /// What a step may change of the state: nothing else has other lines after it. Own rule.
 #[derive(Clone, Copy)]
 pub(crate) struct Reach {
-    /// Whose transaction the step is of, or may begin or end; its process where it is of none.
+    /// Whose transaction the step is of, or may begin or end; its process if none.
     starter: Pid,
-    /// Whether it aborts that transaction, and so all that this one has reserved may change.
+    /// Whether it aborts that transaction, so that all that this has reserved may change.
     aborts: bool,
-    /// What it names where no other transaction is live: so the targets of its sends are among that.
+    /// What it names if no other transaction is live: so the targets of its sends are among it.
     names: Objects,
 }
 
@@ -71,7 +71,7 @@ impl Reach {
     }
 }
 
-/// The marks of the members of a starter's transaction alone.
+/// Only the marks of the members of a starter's transaction.
 ///
 /// NoMemory where a growth is refused.
 fn own_marks(alloc: Global, machine: &Machine, starter: Pid) -> Result<Slots<Mark>, NoMemory>

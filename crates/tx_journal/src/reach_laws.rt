@@ -1,9 +1,9 @@
-//! The laws that what a step may change stands on.
+//! The laws that the proofs of what a step may change use.
 ghost use Rattle.tx_journal.specs.ReachLaws.{ReachLaws};
 
 use tx_laws::{footprints, inside, locality, next_view, step_by_step};
 
-/// The laws on which the proofs stand. It does nothing.
+/// The laws that the proofs use. It does nothing.
 pub(crate) fn reach_laws()
     ensures { ReachLaws }
 {

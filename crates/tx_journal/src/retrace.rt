@@ -35,7 +35,7 @@ impl Model for Retrace {
 }
 
 impl Retrace {
-    /// A kernel of so many process numbers, of which the first few run, before the first step.
+    /// A kernel with this many process numbers, of which the first few run, before the first step.
     ///
     /// NoMemory where a growth is refused.
     pub fn boot(alloc: Global, width: u16, count: u16) -> Result<Retrace, NoMemory>
@@ -51,8 +51,8 @@ impl Retrace {
 
     /// Makes the next step of a history, and answers what the step is to its transaction.
     ///
-    /// NoMemory where a growth is refused. A step that the kernel refuses is in no history, and is
-    /// answered so too.
+    /// NoMemory where a growth is refused. A step that the kernel refuses is in no history, and has
+    /// the same answer.
     pub fn next(&mut self, alloc: Global, step: &Step) -> Result<Note, NoMemory>
         ensures note { IfOk result (λ note.
             (start : State) (earlier : List Accepted) (reply : TheReply) →
@@ -74,7 +74,7 @@ impl Retrace {
     }
 }
 
-/// Makes a step, and puts what takes it back into its place.
+/// Makes a step, and puts its inverse into its place.
 ///
 /// NoMemory where a growth is refused, or something else refuses the step.
 fn make(

@@ -14,7 +14,7 @@ use std::alloc::{AllocError, Global};
 use tx_base::{DESCRIPTIONS, DescNo, NoMemory, PIPES, Pid, PipeNo, Step};
 use tx_core::Machine;
 
-/// Pieces of one kind, which stand one after another in the text of a state.
+/// Pieces of one kind, which are one after another in the text of a state.
 #[derive(Clone, Copy)]
 pub(crate) enum Row {
     /// The processes.
@@ -28,7 +28,7 @@ pub(crate) enum Row {
 }
 
 impl Row {
-    /// How many pieces it has, where there are so many process numbers.
+    /// How many pieces it has, with this many process numbers.
     fn limit(self, width: u16) -> u16
         ensures { result ≡ limit_of self width }
     {
@@ -40,7 +40,7 @@ impl Row {
         }
     }
 
-    /// The piece that comes after so many.
+    /// The piece that comes after this many.
     fn piece(self, number: u16) -> Piece
         requires { number < limit_of self 256 }
         ensures { result ≡ piece_in self number }
@@ -71,7 +71,7 @@ pub fn all_pieces(alloc: Global, machine: &Machine) -> Result<Vec<Piece>, NoMemo
     Ok(found)
 }
 
-/// Appends the pieces of a row, where there are so many process numbers.
+/// Appends the pieces of a row, with this many process numbers.
 fn put_all(found: &mut Vec<Piece>, width: u16, row: Row) -> Result<(), AllocError>
     requires { IsWidth width }
     ensures { OnOk result (found.new.items ≡ found.old.items ++ row_pieces row width) }

@@ -21,8 +21,9 @@ use tx_base::{NoMemory, PROCESSES, WIDE_PROCESSES};
 use tx_core::Machine;
 use tx_lines::{Header, Version};
 
-/// A machine with the journal of all steps that it accepted, which can be walked both ways. Contracts
-/// see what it keeps: its machine's content, all entries, and what takes those back that are made.
+/// A machine with the journal of all steps that it accepted, which can be walked both ways.
+/// Contracts see what it keeps: its machine's content, all entries, and what takes back those that
+/// are made.
 #[derive(Drop)]
 pub struct Session {
     pub(crate) machine: Machine,
@@ -52,8 +53,7 @@ impl Model for Session {
 }
 
 impl Session {
-    /// A session with the processes 1 to count, of 64 that it may have, before its first step: as
-    /// `Machine::boot`.
+    /// A session with processes 1 to `count` of 64, before its first step: as `Machine::boot`.
     ///
     /// NoMemory where a growth is refused.
     pub fn boot(alloc: Global, count: u16) -> Result<Session, NoMemory>
@@ -73,7 +73,7 @@ impl Session {
         })
     }
 
-    /// A session of a wide machine: as `boot`, of 256 processes that it may have.
+    /// A session of a wide machine: as `boot`, with processes 1 to `count` of 256.
     pub fn boot_wide(alloc: Global, count: u16) -> Result<Session, NoMemory>
         requires low { 1 ≤ count }
         requires high { count ≤ 256 }
@@ -107,8 +107,8 @@ impl Session {
         }
     }
 
-    /// Makes room for the entries of so many steps more, and for the aborts of all transactions that
-    /// may be live then, so that these steps want no more room for their entries.
+    /// Makes room for the entries of this many more steps, and for the aborts of all transactions
+    /// that may be live then, so that these steps need no more room for their entries.
     ///
     /// `NoMemory` where a growth is refused; nothing has changed then.
     pub fn reserve(&mut self, steps: usize) -> Result<(), NoMemory>
@@ -121,9 +121,9 @@ impl Session {
         self.journal.grow(count)
     }
 
-    /// Makes room to keep what makes the entries after this position again, once they are taken back, so
-    /// that a walk back to it and forward pays for what their steps changed alone. Without it each step is
-    /// made anew. It pays for the entries between.
+    /// Makes room to keep what makes the entries after this position again, once they are taken
+    /// back, so that a walk back to it and forward pays only for what their steps changed. Without
+    /// it each step is made anew. It pays for the entries between.
     ///
     /// `NoMemory` where a growth is refused; nothing has changed then.
     pub fn reserve_forward(&mut self, position: usize) -> Result<(), NoMemory>
@@ -162,7 +162,7 @@ impl Session {
         self.journal.crossings.made()
     }
 
-    /// The entry of a number, counted from 1. Nothing where there are fewer entries, and for 0.
+    /// The entry of a number, counted from 1. None for 0, and if there are fewer entries.
     pub fn entry(&self, number: usize) -> Option<&Entry>
         ensures { option_copied result ≡ entry_at self.now.entries number }
     {
@@ -176,7 +176,7 @@ impl Session {
         self.journal.entries.as_slice()
     }
 
-    /// The machine as it is at the position, to be read.
+    /// The machine at the position, to read.
     pub fn machine(&self) -> &Machine
         ensures machine { result.now ≡ self.now.machine }
         ensures view { view_of result.now
@@ -196,9 +196,9 @@ impl Session {
         print_state(alloc, self.machine())
     }
 
-    /// The journal is a lawful history, in which each surviving step has the reply that the plain kernel
-    /// gives; and each transaction that it commits and that counts as one moment may be done at that
-    /// moment. It does nothing.
+    /// The journal is a lawful history, in which each surviving step has the reply that the plain
+    /// kernel gives; and each transaction that it commits and that counts as one moment may be made
+    /// at that moment. It does nothing.
     pub fn is_lawful(&self)
         ensures lawful { Lawful (start_of self.now) (history_of self.now.entries) }
         ensures agreement { Agreement (start_of self.now) (history_of self.now.entries) }

@@ -22,9 +22,9 @@ pub struct Touch<'a> {
 }
 
 impl Session {
-    /// The first step since which the live transaction of a starter has reserved an object, without a
-    /// break up to the position. Nothing where it has not reserved it. It goes over what takes the
-    /// entries back that are made, and takes no memory.
+    /// The first step since which the live transaction of a starter has reserved an object, without
+    /// a break up to the position. None if it has not reserved it. It goes over what takes back the
+    /// entries that are made, and takes no memory.
     pub fn first_touch(&self, starter: Pid, object: Object) -> Option<Touch<'_>>
         ensures { option_map numbered result
             ≡ first_touch (start_of self.now) (history_of (made_of self.now)) starter.0
@@ -44,8 +44,8 @@ impl Session {
     }
 }
 
-/// The newest of the entries that are made before which the transaction of a starter had not reserved
-/// the object, of those that are its steps.
+/// The newest entry that is made, is a step of the starter's transaction, and before which that had
+/// not reserved the object.
 fn newest_first<'a>(
     crossings: &Crossings,
     entries: &'a [Entry],
@@ -79,7 +79,7 @@ fn comes_first_at(crossings: &Crossings, place: usize, starter: Pid, object: Obj
     inverse.is_some_and(|inverse| comes_first(inverse, starter, object))
 }
 
-/// Whether it takes a step of the transaction of a starter back before which that had not reserved the
+/// Whether it takes back a step of the starter's transaction before which that had not reserved the
 /// object.
 fn comes_first(inverse: &Inverse, starter: Pid, object: Object) -> bool
     ensures { result ≡ comes_first starter.0 (object_of object) inverse.now }

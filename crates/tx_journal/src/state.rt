@@ -24,7 +24,7 @@ pub fn print_state(alloc: Global, machine: &Machine) -> Result<String, NoMemory>
 }
 
 /// Appends the text of a machine's state. The only error is that a growth of memory was refused:
-/// the text may then have some of the state behind what it had.
+/// the text may then end in some of the state.
 pub fn put_state(text: &mut String, machine: &Machine) -> Result<(), AllocError>
     ensures { OnOk result
         (string_bytes text.new ≡ string_bytes text.old ++ state_text (view_of machine.now)) }

@@ -18,10 +18,10 @@ use tx_base::{Pid, Refusal, Reply, Step};
 use tx_core::NoTransaction;
 
 impl Session {
-    /// Makes a step of a worker at the end of the journal, as `Machine::step` does. Where it is accepted
-    /// the journal has its entry then; where it is refused nothing changed.
+    /// Makes a step of a worker at the end of the journal, as `Machine::step` does. If it is
+    /// accepted, the journal then has its entry; if it is refused, nothing changed.
     ///
-    /// `NoMemory` may come where another reason to refuse it would, since the place of its entry is
+    /// `NoMemory` may come where another reason would refuse it, since the place of its entry is
     /// reserved first; but never to a member's sys_xabort, nor to the kernel's abort.
     pub fn step(&mut self, alloc: Global, worker: u16, step: &Step) -> Reply
         requires { IsAtEnd self.old }
@@ -42,8 +42,8 @@ impl Session {
         reply
     }
 
-    /// Makes a step as `step` does, and puts its reply where it is to stand: for a caller that makes
-    /// many, since a reply is large.
+    /// Makes a step as `step` does, and puts its reply into the caller's place: for a caller that
+    /// makes many, since a reply is large.
     pub fn step_into(&mut self, alloc: Global, worker: u16, step: &Step, reply: &mut Reply)
         requires { IsAtEnd self.old }
         ensures answer { (reply.new ≡ No Refusal.NoMemory)
@@ -62,8 +62,8 @@ impl Session {
         self.enter(alloc, worker, &mut own, reply);
     }
 
-    /// Makes a step as `step_into` does, and moves it into its entry where it is accepted: for a caller that
-    /// needs it no more then, since a step is large too. A refused step stays where it is.
+    /// Makes a step as `step_into` does, and moves it into its entry if it is accepted: for a
+    /// caller that no longer needs it, since a step is large too. A refused step stays where it is.
     #[inline(always)] // a call of its own would cost each line of a talk its arguments
     pub fn enter(&mut self, alloc: Global, worker: u16, step: &mut Step, reply: &mut Reply)
         requires { IsAtEnd self.old }
@@ -95,7 +95,7 @@ impl Session {
     /// Aborts the live transaction of a starter as the kernel does, at the end of the journal, as
     /// `Machine::kernel_abort` does, and adds its entry. It takes no memory.
     ///
-    /// `NoTransaction` where the starter has no live transaction, with nothing changed.
+    /// `NoTransaction` if the starter has no live transaction; nothing has changed then.
     pub fn kernel_abort(&mut self, worker: u16, starter: Pid) -> Result<(), NoTransaction>
         requires { IsAtEnd self.old }
         ensures ok { OnOk result (self.new.entries

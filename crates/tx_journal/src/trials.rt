@@ -18,9 +18,9 @@ use tx_core::Machine;
 use tx_live::Inverse;
 
 impl Session {
-    /// The reply that a step would get at the position, and the lines that each of some pieces of the
-    /// state would have after it: those that it has where the step is refused. The step is made and taken
-    /// back, whatever comes: the session is as it was.
+    /// The reply that a step would get at the position, and the lines that each of some pieces of
+    /// the state would have after it: its present lines if the step is refused. The step is made
+    /// and taken back in any case: the session is as it was.
     ///
     /// `NoMemory` where a growth is refused.
     pub fn trial(
@@ -51,7 +51,7 @@ impl Session {
     }
 
     /// The pieces of the state whose lines a step may change at the position, in the order of the
-    /// state's text: what it names, and what it gives up where it aborts, and its own transaction. Each
+    /// state's text: what it names, what it gives up if it aborts, and its own transaction. Every
     /// other piece has the same lines after the step.
     ///
     /// `NoMemory` where a growth is refused.
@@ -88,8 +88,8 @@ impl Session {
     }
 }
 
-/// The lines of some pieces of a machine's state, as the step left it whose inverse this is. The step is
-/// taken back, whatever comes.
+/// The lines of some pieces of a machine's state, as the step with this inverse left it. The step
+/// is taken back in any case.
 ///
 /// NoMemory where a growth is refused.
 fn print_and_undo(

@@ -12,9 +12,9 @@ use tx_base::{NoMemory, Reply};
 use tx_live::Inverse;
 
 impl Session {
-    /// Takes the newest entry back that is made. It takes no memory.
+    /// Takes back the newest entry that is made. It takes no memory.
     ///
-    /// `AtStart` where none is made, with nothing changed.
+    /// `AtStart` if none is made; nothing has changed then.
     pub fn back(&mut self) -> Result<(), AtStart>
         ensures moved { OnOk result (position_of self.new + 1 ≡ position_of self.old) }
         ensures start { IsErr result ↔ (position_of self.old ≡ 0) }
@@ -25,11 +25,11 @@ impl Session {
         self.journal.crossings.back(&mut self.machine)
     }
 
-    /// Makes the entry after the position again: by exchange, where what was taken back is kept, and else
+    /// Makes the entry after the position again: by exchange if what was taken back is kept, else
     /// by its step, which has the reply that it had.
     ///
-    /// `AtEnd` where all entries are made, and `NoMemory` where a growth is refused, with nothing
-    /// changed.
+    /// `AtEnd` if all entries are made, `NoMemory` if a growth is refused; nothing has changed
+    /// then.
     pub fn forward(&mut self, alloc: Global) -> Result<(), ForwardFault>
         ensures moved { OnOk result (position_of self.new ≡ position_of self.old + 1) }
         ensures end { (result ≡ Err forward.AtEnd) ↔ IsAtEnd self.old }
@@ -47,8 +47,8 @@ impl Session {
 
     /// Makes the entry after the position anew: its step has the reply that it had.
     ///
-    /// `AtEnd` where all entries are made, and `NoMemory` where a growth is refused, with nothing
-    /// changed.
+    /// `AtEnd` if all entries are made, `NoMemory` if a growth is refused; nothing has changed
+    /// then.
     fn make_next(&mut self, alloc: Global) -> Result<(), ForwardFault>
         ensures moved { OnOk result (position_of self.new ≡ position_of self.old + 1) }
         ensures end { (result ≡ Err forward.AtEnd) ↔ IsAtEnd self.old }
@@ -73,10 +73,10 @@ impl Session {
         Ok(())
     }
 
-    /// Goes to the position after so many entries, step by step: it pays for the entries between.
+    /// Goes to the position after this many entries, step by step: it pays for the entries between.
     ///
-    /// `Beyond` where the journal has fewer entries, with nothing changed. `NoMemory` where a growth is
-    /// refused on the way forward: the position is then between the old one and the new one.
+    /// `Beyond` if the journal has fewer entries; nothing has changed then. `NoMemory` if a growth
+    /// is refused on the way forward: the position is then between the old one and the new one.
     pub fn goto(&mut self, alloc: Global, position: usize) -> Result<(), GotoFault>
         ensures moved { OnOk result (position_of self.new ≡ position) }
         ensures beyond { (result ≡ Err goto.Beyond) ↔ (length self.old.entries < position) }
@@ -95,7 +95,7 @@ impl Session {
         }
     }
 
-    /// Takes entries back until no more than so many are made.
+    /// Takes back entries until at most this many are made.
     fn back_to(&mut self, position: usize)
         ensures moved { position ≤ position_of self.old → position_of self.new ≡ position }
         ensures stayed { position_of self.old ≤ position →
@@ -107,7 +107,7 @@ impl Session {
         }
     }
 
-    /// Makes entries again until so many are made, which the journal must have.
+    /// Makes entries again until this many are made, which the journal must have.
     ///
     /// `NoMemory` where a growth is refused; fewer are made then, and no fewer than before.
     fn forward_to(&mut self, alloc: Global, position: usize) -> Result<(), NoMemory>

@@ -1,4 +1,4 @@
--- The tokens of what a line is answered, an object each.
+-- The tokens of the answers to a line, an object each.
 use Rattle.std.specs.Prelude.{ℕ, List, [], ◌∷◌, ◌++◌, codes}
 use Rattle.std.specs.Str.Lines.{lines}
 use Rattle.json.specs.Token.{Token}
@@ -10,7 +10,7 @@ use Rattle.tx_json.specs.Replies.{reply_members}
 use Rattle.tx_json.specs.State.{state_tokens}
 use Rattle.tx_model.specs.View.{View}
 
--- nothing is said
+-- no answer
 abbrev pub empty_answer : List Token
 empty_answer = begin_object ++ end_object
 
@@ -26,11 +26,11 @@ line_item line = Token.string line ∷ []
 abbrev pub lines_member : List ℕ → List Token
 lines_member text = list_member (codes "lines") (each_tokens line_item (lines text))
 
--- how an answer begins that has the lines of a text: with a position, and those
+-- how an answer with the lines of a text begins: with a position, and those
 abbrev pub lines_front : ℕ → List ℕ → List Token
 lines_front at text = begin_object ++ (count_member (codes "at") at ++ lines_member text)
 
--- a position, the lines of a text, and members behind them
+-- a position, the lines of a text, and members after them
 abbrev pub lines_with : ℕ → List ℕ → List Token → List Token
 lines_with at text members = begin_object ++ (count_member (codes "at") at ++ (lines_member text ++ (members ++ end_object)))
 

@@ -13,7 +13,7 @@ holder_tokens holder = begin_object ++ (count_member (codes "process") holder.pr
 abbrev pub holders_member : List ℕ → List Holder → List Token
 holders_member name holders = list_member name (each_tokens holder_tokens holders)
 
--- those that are open, where it is asked which are
+-- those that are open, if they were asked for
 abbrev pub holders_members : Option (List Holder) → List Token
 holders_members None = []
 holders_members (Some holders) = holders_member (codes "holders") holders

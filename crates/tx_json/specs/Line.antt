@@ -4,16 +4,16 @@ use Rattle.json.specs.Print.{print}
 use Rattle.json.specs.Token.{Token, begin_object, end_object, begin_array, end_array, key, string, number, boolean, null, bad}
 use Rattle.json.specs.Written.{Written}
 
--- no byte of it is a line's end
+-- no byte of it is a line end
 abbrev pub HasNoEnd : List ℕ → Type 0
 HasNoEnd text = All (λ byte. byte ≢ 10) text
 
--- the text is the JSON of the tokens, and then a line's end, and has no other
+-- the text is the JSON of the tokens, then a line end, and has no other line end
 pub record IsLineOf (tokens : List Token) (text : List ℕ) : Type 0 where
   pub printed : text ≡ print tokens ++ 10 ∷ []
   pub one_line : HasNoEnd (print tokens)
 
--- a number is no more than one line; whatever else a token has is escaped
+-- a number has no line end; whatever else a token has is escaped
 abbrev pub IsOnOneLine : Token → Type 0
 IsOnOneLine begin_object = Unit {0}
 IsOnOneLine end_object = Unit {0}
@@ -26,7 +26,7 @@ IsOnOneLine (boolean flag) = Unit {0}
 IsOnOneLine null = Unit {0}
 IsOnOneLine bad = Unit {0}
 
--- a writer of a line began with nothing, and has only such tokens
+-- a writer of a line began empty, and has only such tokens
 pub record IsLine (written : Written) : Type 0 where
   pub begins : written.before ≡ []
   pub one_line : All IsOnOneLine written.tokens

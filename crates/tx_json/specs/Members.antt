@@ -15,7 +15,7 @@ number_member name number = Token.key name ∷ Token.number (signed_decimal numb
 unfoldable pub word_member : List ℕ → List ℕ → List Token
 word_member name word = Token.key name ∷ Token.string word ∷ []
 
--- a key, and whether something is so
+-- a key, and true or false
 unfoldable pub flag_member : List ℕ → Bool → List Token
 flag_member name flag = Token.key name ∷ Token.boolean flag ∷ []
 
@@ -23,7 +23,7 @@ flag_member name flag = Token.key name ∷ Token.boolean flag ∷ []
 unfoldable pub null_member : List ℕ → List Token
 null_member name = Token.key name ∷ Token.null ∷ []
 
--- a key, and an object behind it
+-- a key, and an object after it
 unfoldable pub object_key : List ℕ → List Token
 object_key name = Token.key name ∷ []
 

@@ -26,7 +26,7 @@ pages_member memory = list_member (codes "pages") (upto (λ number. page_item nu
 abbrev pub status_member : ℕ → List Token
 status_member status = if nat_lt status 256 then count_member (codes "exit") status else count_member (codes "killed") (status - 256)
 
--- how a process ended, where it did
+-- how a process ended, if it did
 abbrev pub end_members : Option ℕ → List Token
 end_members None = []
 end_members (Some status) = status_member status
@@ -40,7 +40,7 @@ abbrev pub ids_members : Ids → List Token
 ids_members ids =
     three_ids (codes "users") ids.real_user ids.effective_user ids.saved_user ++ three_ids (codes "groups") ids.real_group ids.effective_group ids.saved_group
 
--- where a process stands
+-- where a process is
 abbrev pub registers_members : Regs → List Token
 registers_members regs =
     count_member (codes "point") regs.point ++ (number_member (codes "ret") regs.ret ++ numbers_member (codes "slots") regs.slots)

@@ -1,4 +1,4 @@
-//! Writes what a line is answered, an object each.
+//! Writes the answers to a line, an object each.
 ghost use Rattle.std.specs.Prelude.{◌≡◌, ◌++◌, IfOk, OnOk, map, string_bytes};
 ghost use Rattle.std.specs.Str.Lines.{lines};
 ghost use Rattle.tx_json.specs.Answers.{empty_answer, entry_answer, error_answer, line_item, lines_front, lines_member, number_members, position_answer, state_answer, state_key, step_answer, trial_answer};
@@ -16,7 +16,7 @@ use std::mem;
 use tx_base::{NoMemory, Reply};
 use tx_core::Machine;
 
-/// An object of nothing.
+/// An empty object.
 ///
 /// NoMemory where a growth is refused.
 pub fn empty_answer(alloc: Global) -> Result<String, NoMemory>
@@ -99,8 +99,8 @@ fn put_item(writer: &mut LineWriter, line: &str) -> Result<(), AllocError>
     writer.string(line)
 }
 
-/// Puts the reply of a step in place of what a text had, in its room: where it was accepted with its
-/// number, as `{"step":7,"reply":"ok","ret":0}`.
+/// Replaces a text by the reply of a step, in its room: if it was accepted, with its number, as
+/// `{"step":7,"reply":"ok","ret":0}`.
 ///
 /// NoMemory where a growth is refused; the text is empty then.
 pub fn put_step_answer(
@@ -135,7 +135,7 @@ fn put_number(writer: &mut LineWriter, number: usize, reply: &Reply) -> Result<(
     }
 }
 
-/// An entry of a journal, of which the step is told by its text, as
+/// An entry of a journal, with the step's text, as
 /// `{"step":7,"worker":1,"text":"2 map 0","reply":"ok","ret":0}`.
 ///
 /// NoMemory where a growth is refused.

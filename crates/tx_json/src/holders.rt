@@ -15,7 +15,8 @@ pub struct Holder {
     pub descriptor: u8,
 }
 
-/// Appends who has a side of a pipe open, where it is asked, as `"holders":[{"process":3,"descriptor":1}]`.
+/// Appends who has a side of a pipe open, if that was asked for, as
+/// `"holders":[{"process":3,"descriptor":1}]`.
 pub fn put_holders(writer: &mut LineWriter, holders: Option<&[Holder]>) -> Result<(), AllocError>
     ensures { OnOk result (writer.new ≡ writer.old
         ++ holders_members (option_map (λ held. held.now) holders.entry)) }

@@ -1,5 +1,5 @@
-//! The JSON that is printed: a line for each answer, with the members of a reply and the object of a
-//! state; and its writer, for answers with more members.
+//! The JSON that is printed: a line for each answer, with the members of a reply and the object of
+//! a state; and its writer, for answers with more members.
 #![tactic(auto)]
 
 mod answers;

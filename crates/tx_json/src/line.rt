@@ -9,8 +9,8 @@ use std::alloc::{AllocError, Global};
 use std::marker::Model;
 use tx_base::NoMemory;
 
-/// A line of JSON that is being written, a token at a time. It places the commas and the colons, and
-/// leaves the nesting to its caller. Where a growth is refused, the token is not there.
+/// A line of JSON that is being written, a token at a time. It places the commas and the colons,
+/// and leaves the nesting to its caller. If a growth is refused, the token is missing.
 #[derive(Drop)]
 pub struct LineWriter {
     writer: Writer,

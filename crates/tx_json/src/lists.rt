@@ -21,7 +21,7 @@ pub fn put_numbers(writer: &mut LineWriter, name: &str, numbers: &[i64]) -> Resu
     end_list(writer)
 }
 
-/// Appends a number of a list that may be negative.
+/// Appends an item of a list: a number that may be negative.
 #[tactic(auto, unfolding(crate::specs::Lists::number_item))]
 fn put_number_item(writer: &mut LineWriter, number: &i64) -> Result<(), AllocError>
     ensures { OnOk result (writer.new ≡ writer.old ++ number_item number.now) }

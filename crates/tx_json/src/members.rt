@@ -36,7 +36,7 @@ pub fn put_word(writer: &mut LineWriter, name: &str, word: &str) -> Result<(), A
     writer.string(word)
 }
 
-/// Appends whether something is so.
+/// Appends true or false.
 #[tactic(auto, unfolding(crate::specs::Members::flag_member))]
 pub fn put_flag(writer: &mut LineWriter, name: &str, flag: bool) -> Result<(), AllocError>
     ensures { OnOk result
@@ -93,7 +93,7 @@ pub fn end_object(writer: &mut LineWriter) -> Result<(), AllocError>
     writer.end_object()
 }
 
-/// Appends the key of an array, and begins that.
+/// Appends the key of an array, and begins it.
 #[tactic(auto, unfolding(crate::specs::Members::begin_list))]
 pub fn begin_list(writer: &mut LineWriter, name: &str) -> Result<(), AllocError>
     ensures { OnOk result (writer.new ≡ writer.old ++ begin_list name.now) }

@@ -61,7 +61,7 @@ fn put_slot(
     }
 }
 
-/// Appends how a process ended, where it did.
+/// Appends how a process ended, if it did.
 fn put_end(writer: &mut LineWriter, status: Option<u16>) -> Result<(), AllocError>
     ensures { OnOk result (writer.new ≡ writer.old ++ end_members status) }
 {
@@ -94,7 +94,7 @@ fn put_own(alloc: Global, writer: &mut LineWriter, proc: &Proc) -> Result<(), Al
     put_signals(writer, proc)
 }
 
-/// Appends where a process stands.
+/// Appends where a process is.
 fn put_registers(writer: &mut LineWriter, regs: &Regs) -> Result<(), AllocError>
     ensures { OnOk result (writer.new ≡ writer.old ++ registers_members regs.now) }
 {

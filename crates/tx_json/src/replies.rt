@@ -14,8 +14,8 @@ use tx_base::{Missed, Refusal, Reply};
 use tx_lines::refusal_word;
 use tx_text::error_name;
 
-/// Appends the members that say what a step was answered. The only error is that a growth of memory was
-/// refused: some of them may then stand behind what the writer had.
+/// Appends the members that say what a step was answered. The only error is that a growth of memory
+/// was refused: the writer may then end in some of them.
 pub fn put_reply(alloc: Global, writer: &mut LineWriter, reply: &Reply) -> Result<(), AllocError>
     ensures { OnOk result (writer.new ≡ writer.old ++ reply_members reply.now) }
 {
@@ -42,7 +42,7 @@ pub fn put_reply(alloc: Global, writer: &mut LineWriter, reply: &Reply) -> Resul
     }
 }
 
-/// Appends the name of the error that a call returns by this number, where it is an error's.
+/// Appends the name of the error that a call returns as this number, if it is an error's.
 fn put_error(writer: &mut LineWriter, ret: i64) -> Result<(), AllocError>
     ensures { OnOk result (writer.new ≡ writer.old ++ error_members (error_name ret)) }
 {
@@ -75,7 +75,7 @@ fn put_missed(writer: &mut LineWriter, missed: &Missed) -> Result<(), AllocError
     end_object(writer)
 }
 
-/// Appends a refusal, and the starter where one is in the way.
+/// Appends a refusal, and the starter if one is in the way.
 fn put_refusal(writer: &mut LineWriter, refusal: Refusal) -> Result<(), AllocError>
     ensures { OnOk result (writer.new ≡ writer.old ++ refusal_members refusal) }
 {

@@ -18,8 +18,8 @@ use tx_change::Parts;
 use tx_core::Machine;
 
 /// Appends the state of a machine as an object: its processes, descriptions, pipes and live
-/// transactions. The only error is that a growth of memory was refused: some of the object may then
-/// stand behind what the writer had.
+/// transactions. The only error is that a growth of memory was refused: the writer may then end in
+/// some of the object.
 pub fn put_state(
     alloc: Global,
     writer: &mut LineWriter,
@@ -63,8 +63,8 @@ fn put_txns(writer: &mut LineWriter, machine: &Machine, width: u16) -> Result<()
     end_list(writer)
 }
 
-/// Appends a starter's live transaction: none where the process has begun none. Most numbers have no
-/// mark, and are asked no more.
+/// Appends a starter's live transaction: none where the process has begun none. Most numbers have
+/// no mark, and nothing else is looked at.
 fn put_txn_of(
     writer: &mut LineWriter,
     machine: &Machine,

@@ -1,4 +1,4 @@
--- The process that makes a step, and the transaction that it makes it in.
+-- The process that makes a step, and the transaction in which it makes it.
 use Rattle.std.specs.Prelude.{◌≡◌, ℕ, ◌≤◌, List, [], Option, Some, None, length}
 use Rattle.tx_base.specs.Slots.{slot_at}
 use Rattle.tx_change.specs.Counts.{CountsAgree}
@@ -28,12 +28,12 @@ abbrev pub inside_of : Option Inside → Option TheInside
 inside_of None = None
 inside_of (Some inside) = Some (transaction_of inside)
 
--- the number of held sends is that of the sends that members handed out
+-- the number of held sends is how many members handed out
 abbrev pub CountsHeld : Option Inside → (ℕ → List Sending) → Type 0
 CountsHeld None held = Unit {0}
 CountsHeld (Some inside) held = member_sends (held inside.starter.0) ≡ inside.held
 
--- the counts of names are right, each process has its places, and the state is well formed, as every state is that a history leads to
+-- the counts of names are right, each process has its places, and the state is well formed, as is every state that a history leads to
 pub record IsWhole (parts : Parts) : Type 0 where
   pub counts : CountsAgree parts
   pub places : HaveAllPlaces parts
@@ -55,7 +55,7 @@ me_of actor = process_of actor.proc.now
 abbrev pub caller_of : Actor → State → Caller
 caller_of actor S = record { number = actor.pid.0; process = me_of actor; inside = inside_of actor.inside; state = S }
 
--- what a rule does of it, and what a call of it names beside its process
+-- what a rule does for it, and what its call names besides its process
 abbrev pub effect_by : Actor → Rule → State → Effect
 effect_by actor rule S = effect_of actor.pid.0 (me_of actor) (rule (caller_of actor S))
 

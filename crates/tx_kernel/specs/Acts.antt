@@ -1,4 +1,4 @@
--- What a process is asked to do, as an event; the plan of an event, and what the event comes to that is made on the parts.
+-- What a process is asked to do, as an event; the plan of an event, and what the event comes to on the parts.
 use Rattle.std.specs.Prelude.{◌≡◌, ◌⊎◌, ℕ, List, ◌++◌, Option, drop, take, length}
 use Rattle.tx_base.specs.declared.names.Pid.{Pid}
 use Rattle.tx_base.specs.declared.steps.Refusal.{Refusal}
@@ -22,13 +22,13 @@ use Rattle.tx_model.specs.Forms.{Choice, ChoosesNothing, Page}
 use Rattle.tx_model.specs.Events.{Event, Do, Note, Commit, effect, objects, effect_at, page_of_step}
 use Rattle.tx_model.specs.State.{Sending}
 
--- the event in which the process of a number does what it is asked to
+-- the event in which the process of a number does what it is asked
 abbrev pub event_of : Option TheInside → Pid → Act → Event
 event_of inside pid (Call call) = Do (Calls pid call.now) inside
 event_of inside pid (Delivery signo) = Do (Deliver pid signo) inside
 event_of inside pid (Answer ret) = Note pid.0 ret
 
--- a log that has the plan of an event of the process at its end now
+-- a log that now ends in the plan of an event of the process
 pub record PlansEvent (actor : Actor) (before now : List Change) (planned : Planned) (event : Event) : Type 0 where
   pub plan : List Change
   pub added : now ≡ before ++ plan
@@ -40,8 +40,7 @@ pub record PlansEvent (actor : Actor) (before now : List Change) (planned : Plan
   pub signal : HasSignal planned.sends
   pub among : (held : ℕ → List Sending) → AreAmong (objects event (state_of held actor.parts.now) ++ target_objects planned.sends) plan
 
--- the parts, the log and what else the step comes to are the event's: the log has at its end what leads back, and that names the
--- event's objects
+-- the parts, the log and what else the step comes to are the event's: the log ends in what leads back, which names the event's objects
 pub record Makes (before : Parts) (pid : Pid) (inside : Option Inside) (event : Event) (log now : List Change) (after : Parts) (planned : Planned) : Type 0 where
   pub kept : List Change
   pub added : now ≡ log ++ kept
@@ -55,7 +54,7 @@ pub record Makes (before : Parts) (pid : Pid) (inside : Option Inside) (event : 
   pub signal : HasSignal planned.sends
   pub among : (held : ℕ → List Sending) → AreAmong (objects event (state_of held before) ++ target_objects planned.sends) kept
 
--- the plan of an event, once its exchanges are made, is the event made
+-- the plan of an event, once exchanged, makes the event
 abbrev pub PlansAreMade : Type 0
 PlansAreMade = (actor : Actor) (event : Event) (log between now : List Change) (after : Parts) (planned : Planned) → IsActor actor →
     PlansEvent actor log between planned event →

@@ -10,7 +10,7 @@ use Rattle.tx_model.specs.State.{Queued}
 abbrev pub queue_of : Actor → List Queued
 queue_of actor = actor.proc.now.pending.queued
 
--- of the first so many entries those of the signal are out, and the others stand in front: as many as the place says
+-- of the first entries, this many, those of the signal are out, and the others are in front: as many as the place says
 pub record TakenOut (actor : Actor) (before now : List Change) (signo count place : ℕ) : Type 0 where
   pub kept : List Queued
   pub as_many : place ≡ length kept

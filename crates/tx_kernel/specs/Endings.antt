@@ -15,7 +15,7 @@ use Rattle.tx_model.specs.Descriptors.{has_description}
 use Rattle.tx_model.specs.State.{State, has_parent}
 use Rattle.tx_proc.specs.declared.proc.Part.TheVariants.{Parent}
 
--- the state that the parts mean where nothing is held
+-- the state of the parts where nothing is held
 abbrev pub plain : Parts → State
 plain parts = state_of (λ starter. []) parts
 
@@ -23,11 +23,11 @@ plain parts = state_of (λ starter. []) parts
 abbrev pub plain_with : List NewDesc → Parts → State
 plain_with news parts = plain (record parts { descs = put_descs news parts.descs })
 
--- whether one of these descriptions is to go
+-- whether one of these descriptions must go
 abbrev pub takes_out : List NewDesc → Bool
 takes_out news = list_any (λ new. is_none new.opened) news
 
--- once these are in place, each description is as it was, but for the count of its names, or is gone
+-- once these are in place, each description is as it was, except for the count of its names, or is gone
 pub record OnlyRemoves (news : List NewDesc) (descs : List (Option Opened)) : Type 0 where
   pub each : (d : ℕ) → (description_at (put_descs news descs) d ≡ description_at descs d) ⊎ (description_at (put_descs news descs) d ≡ None)
 

@@ -1,4 +1,4 @@
--- The laws that the plans stand on, and those of the states that they are for.
+-- The laws that the proofs of plans use, and those of their states.
 use Rattle.std.specs.Prelude.{◌≡◌, ◌≤◌, ℕ, []}
 use Rattle.tx_change.specs.Counts.{CountsAgree}
 use Rattle.tx_change.specs.Laws.{HaveAllPlaces}
@@ -34,7 +34,7 @@ pub record PlanLaws : Type 0 where
   pub stays : ExchangedStayNamed
   pub slots : SlotInTurn
 
--- parts that stand as at boot are whole
+-- parts as at boot are whole
 abbrev pub BootedAreWhole : Type 0
 BootedAreWhole = (width count : ℕ) (parts : Parts) → 1 ≤ count → count ≤ width → width ≤ 256 → state_of (λ starter. []) parts ≡ boot_state width count → HaveAllPlaces parts → CountsAgree parts →
     IsWhole parts

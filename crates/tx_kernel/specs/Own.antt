@@ -1,4 +1,4 @@
--- Plans of calls that concern their own process alone.
+-- Plans of calls that concern only their own process.
 use Rattle.std.specs.Prelude.{◌≡◌, ℤ, List, ◌++◌}
 use Rattle.tx_change.specs.Counts.{AreNameless}
 use Rattle.tx_change.specs.Laws.{revised_by}
@@ -25,7 +25,7 @@ use Rattle.tx_proc.specs.declared.proc.Part.TheVariants.{Page}
 abbrev pub answer_after : ℤ → Actor → Answer
 answer_after ret actor = record { point = next_point actor.proc.now.regs.point; ret = ret }
 
--- a log that has changes of parts of the process at its end now that make this of it
+-- a log that now ends in changes of parts of the process that make this of it
 pub record PlansPart (actor : Actor) (before now : List Change) (rule : Process → Process) : Type 0 where
   pub plan : List Change
   pub added : now ≡ before ++ plan
@@ -33,8 +33,7 @@ pub record PlansPart (actor : Actor) (before now : List Change) (rule : Process 
   pub nameless : AreNameless plan
   pub process : revised_by plan (me_of actor) ≡ rule (me_of actor)
 
--- a log that has at its end now changes of parts of the process alone: in every state the rule makes of it what they make of
--- it, and answers so
+-- a log that now ends in changes of only parts of the process: in every state the rule makes of it what they do, and has that answer
 pub record PlansOwn (actor : Actor) (before now : List Change) (outcome : Outcome) (rule : State → Effect) : Type 0 where
   pub plan : List Change
   pub added : now ≡ before ++ plan
@@ -43,11 +42,11 @@ pub record PlansOwn (actor : Actor) (before now : List Change) (outcome : Outcom
   pub effect : (S : State) → rule S ≡ own_effect actor.pid.0 (record { process = revised_by plan (me_of actor); reply = reply_of (me_of actor).memory outcome })
   pub shown : KeepsShown outcome (me_of actor).memory (revised_by plan (me_of actor)).memory
 
--- what the actor asks by this page comes to the same as by that rule
+-- the actor's call comes to the same by this page as by that rule
 abbrev pub ComesTo : Actor → Rule → Rule → Type 0
 ComesTo actor page rule = (S : State) → page (caller_of actor S) ≡ rule (caller_of actor S)
 
--- a part that names nothing, and is not the answer, with a number that there is
+-- a part that names nothing and is not the answer, with a number in range
 abbrev pub IsPlainPart : ProcPart → Type 0
 IsPlainPart (part.Answer answer) = ⊥
 IsPlainPart (part.Status status) = ⊥

@@ -34,7 +34,7 @@ use Rattle.tx_model.specs.Memory.{stored_memory, address_of, bytes_at, is_good, 
 use Rattle.tx_model.specs.Numbers.{below, error_answer}
 use Rattle.tx_model.specs.State.{Sending as TheSending, SetPipe}
 
--- what the description has that a descriptor names, if it names one
+-- what the description that a descriptor names has, if it names one
 abbrev pub opened_at : List (Option Opened) → Option ℕ → Option Opened
 opened_at descs None = None
 opened_at descs (Some d) = slice_index_or descs d None
@@ -66,7 +66,7 @@ pub record CanPut (actor : Actor) (address : ℤ) (pipe : PipeNo) (n : ℕ) : Ty
   pub good : is_good is_mapped (me_of actor).memory address n ≡ true
   pub room : length (held_in actor pipe) + n ≤ PIPE_BYTES
 
--- bytes are put to this pipe alone, and can be
+-- bytes are put only to this pipe, and can be
 abbrev pub IsReadyToPut : Actor → ℤ → PipeNo → Writing → Type 0
 IsReadyToPut actor address pipe writing.Nothing = Unit {0}
 IsReadyToPut actor address pipe writing.Breaks = Unit {0}
@@ -88,7 +88,7 @@ PutsTo actor x address writing.Breaks = Unit {0}
 PutsTo actor x address writing.Waits = Unit {0}
 PutsTo actor x address (writing.Puts to n) = NamesPipe actor x to × CanPut actor address to n
 
--- what a write of so many bytes to a description that has a reader comes to
+-- what a write of this many bytes to a description with a reader comes to
 abbrev pub IsPutting : Actor → Desc → ℕ → Result Writing Errno → Type 0
 IsPutting actor desc n (Ok writing.Nothing) = ⊥
 IsPutting actor desc n (Ok writing.Breaks) = ⊥
@@ -100,7 +100,7 @@ IsPutting actor desc n (Err errno) = (errno ≡ TryAgain) × (nat_lt PIPE_BYTES 
 abbrev pub put_bytes : Actor → ℤ → ℕ → List ℕ
 put_bytes actor address n = bytes_at (me_of actor).memory (address_of address) n
 
--- the signal that tells the process that no reader is left
+-- the signal for a process that writes without a reader
 abbrev pub broken_sending : Actor → Sending
 broken_sending actor = record { target = actor.pid; signo = SIGPIPE; value = pos 0; from = None }
 
@@ -117,7 +117,7 @@ reading_outcome address (Ok (reading.Takes pipe n)) c =
     let held = bytes_in (c.state.pipes pipe.0) in
     changes (pos n) (record c.process { memory = stored_memory c.process.memory (address_of address) (take n held) }) (SetPipe pipe.0 (Some (drop n held)) ∷ [])
 
--- a read from such a descriptor is one from the description, of so many bytes that may be put at the address
+-- a read from such a descriptor is one from the description, of this many bytes that may be put at the address
 pub record AsksFor (actor : Actor) (desc : Desc) (n : ℕ) (fd address count : ℤ) (held : ℕ → List TheSending) : Type 0 where
   pub end : end_in is_read_side fd (calling actor held) ≡ Some (description_of desc)
   pub number : below 513 count ≡ Some n
@@ -129,7 +129,7 @@ pub record CanTake (actor : Actor) (pipe : PipeNo) (n : ℕ) : Type 0 where
   pub held : n ≤ length (held_in actor pipe)
   pub fits : length (held_in actor pipe) ≤ PIPE_BYTES
 
--- bytes are taken from this pipe alone, and can be
+-- bytes are taken only from this pipe, and can be
 abbrev pub IsReadyToTake : Actor → PipeNo → Reading → Type 0
 IsReadyToTake actor pipe reading.Nothing = Unit {0}
 IsReadyToTake actor pipe reading.Waits = Unit {0}
@@ -141,7 +141,7 @@ TakesFrom actor x reading.Nothing = Unit {0}
 TakesFrom actor x reading.Waits = Unit {0}
 TakesFrom actor x (reading.Takes from n) = NamesPipe actor x from × CanTake actor from n
 
--- a log that has at its end now that bytes go from the pipe, and the pages with these bytes
+-- a log that now ends in taking bytes from the pipe, and in the pages with these bytes
 pub record TakesBytes (actor : Actor) (before now : List Change) (pipe : PipeNo) (address : ℤ) (n : ℕ) : Type 0 where
   pub pages : List NewPage
   pub numbered : AreNumbered pages

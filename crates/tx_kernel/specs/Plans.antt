@@ -1,4 +1,4 @@
--- What a plan is to be: changes that make of the state what the rule's effect makes of it before its posts.
+-- What a plan must be: changes that make of the state what the rule's effect makes of it before its posts.
 use Rattle.std.specs.Prelude.{◌≡◌, ◌⊎◌, ◌<◌, ℕ, true, false, List, [], ◌∷◌, ◌++◌, length, Option, Some, None}
 use Rattle.tx_base.specs.declared.names.Sending.{Sending}
 use Rattle.tx_base.specs.declared.steps.Refusal.{Refusal}
@@ -38,12 +38,12 @@ reply_of memory (Done r) = reply.Done r
 reply_of memory Ended = reply.Ended
 reply_of memory (Out shown) = reply.Out (record { items = bytes_from memory shown.address shown.count })
 
--- the memory of a process, if it is there
+-- the memory of a process, if there is one
 abbrev pub memory_in : Option Process → Memory
 memory_in None = no_memory
 memory_in (Some q) = q.memory
 
--- the memory stays where bytes of it are to be shown
+-- the memory stays if bytes of it are shown
 abbrev pub KeepsShown : Outcome → Memory → Memory → Type 0
 KeepsShown (Done r) memory after = Unit {0}
 KeepsShown Ended memory after = Unit {0}
@@ -90,13 +90,13 @@ HasSignal Nothing = Unit {0}
 HasSignal (AtOnce m) = m.signo.0 < 64
 HasSignal (AtCommit m) = Unit {0}
 
--- a signal that is posted with a plan has a number below 64, and the changes leave of its target what a post sees
+-- a signal that is posted with a plan has a number below 64, and the changes leave what a post sees of its target
 abbrev pub LeavesTarget : Parts → Sends → Parts → Type 0
 LeavesTarget parts Nothing after = Unit {0}
 LeavesTarget parts (AtOnce m) after = (m.signo.0 < 64) × IsSeen (slot_at parts.procs m.target.0) (process_in (slot_at after.procs m.target.0))
 LeavesTarget parts (AtCommit m) after = Unit {0}
 
--- a log that has a plan of the rule at its end now
+-- a log that now ends in a plan of the rule
 pub record Plans (actor : Actor) (before now : List Change) (planned : Planned) (rule : State → Effect) (objects : State → List Object) : Type 0 where
   pub plan : List Change
   pub added : now ≡ before ++ plan
@@ -109,7 +109,7 @@ pub record Plans (actor : Actor) (before now : List Change) (planned : Planned) 
   pub seen : LeavesTarget actor.parts.now planned.sends (applied actor.parts.now plan)
   pub among : (held : ℕ → List TheSending) → AreAmong (Proc actor.pid.0 ∷ objects (state_of held actor.parts.now)) plan
 
--- a log that has more at its end now
+-- a log that now has more at its end
 pub record Extends (before now : List Change) : Type 0 where
   pub more : List Change
   pub added : now ≡ before ++ more

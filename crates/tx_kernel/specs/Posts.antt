@@ -1,4 +1,4 @@
--- What of a process decides the answer of a post, and what a post is to exchange.
+-- What decides the answer of a post to a process, and what the post exchanges.
 use Rattle.std.specs.Prelude.{◌≡◌, ℕ, List, [], ◌∷◌, ◌++◌, Option, Some, None, Result, Ok, Err, IfOk, IsSome, is_some, length, option_map}
 use Rattle.tx_base.specs.Slots.{slot_at}
 use Rattle.tx_base.specs.declared.errors.Errno.{Errno}
@@ -18,7 +18,7 @@ use Rattle.tx_proc.specs.declared.proc.Part.TheVariants.{Pending, Queued}
 use Rattle.tx_proc.specs.declared.proc.Proc.{Proc}
 use Rattle.tx_signal.specs.Parts.{answer_of, PendingView}
 
--- the process has these ids, has ended or not, and has so many entries in its queue
+-- the process has these ids, has ended or not, and has this many entries in its queue
 pub record HasFace (face : Face) (q : Process) : Type 0 where
   pub ids : ids_of face.ids ≡ q.ids
   pub ended : face.ended ≡ is_some q.status
@@ -29,12 +29,12 @@ abbrev pub revised_if : Option Part → Process → Process
 revised_if None q = q
 revised_if (Some part) q = revised part q
 
--- the answer alone
+-- only the answer
 abbrev pub without_part : {A : Type 0} → Result A Errno → Result (Unit {0}) Errno
 without_part (Ok _) = Ok tt
 without_part (Err errno) = Err errno
 
--- the process after the post that is planned so
+-- the process after the planned post
 abbrev pub posted : Result (Option Part) Errno → Process → Process
 posted (Ok part) q = revised_if part q
 posted (Err errno) q = q
@@ -57,7 +57,7 @@ IsSeen None (Some q) = ⊥
 IsSeen (Some proc) None = ⊥
 IsSeen (Some proc) (Some q) = q ≡ seen_as proc q
 
--- a log that has the exchanges of a post at its end now: of its target, where that is seen so, they make what the posting rule makes
+-- a log that now ends in the exchanges of a post: of its target, if seen as this, they make what the posting rule makes
 pub record PlansPost (parts : Parts) (before now : List Change) (m : Sending) (answer : Result (Unit {0}) Errno) : Type 0 where
   pub plan : List Change
   pub added : now ≡ before ++ plan
@@ -67,7 +67,8 @@ pub record PlansPost (parts : Parts) (before now : List Change) (m : Sending) (a
   pub answers : (q : Option Process) → IsSeen (slot_at parts.procs m.target) q → answer_of answer ≡ post_answer m q
   pub receives : (q : Option Process) → IsSeen (slot_at parts.procs m.target) q → option_map (revised_by plan) q ≡ target_after m q
 
--- what a post to the process of a number is to exchange: the answer and the process after it are the posting rule's, of each that is seen as the one there
+-- what a post to the process of a number exchanges: the answer and the process after it are the posting rule's, for each process that is seen as the one
+-- there
 pub record PlansAt (parts : Parts) (m : Sending) (result : Result (Option Part) Errno) : Type 0 where
   pub pending : IfOk result IsOfPending
   pub there : IfOk result (λ part. IsSome part → IsPid (sizes_of parts) m.target)
@@ -79,7 +80,7 @@ abbrev pub listed_change : Option Change → List Change
 listed_change None = []
 listed_change (Some change) = change ∷ []
 
--- the parts are the same but for what is pending at processes
+-- the parts are the same except what is pending at processes
 pub record IsButPending (before after : Parts) : Type 0 where
   pub width : length after.procs ≡ length before.procs
   pub each : (n : ℕ) → (pending : PendingView) × (slot_at after.procs n ≡ option_map (with_pending pending) (slot_at before.procs n))

@@ -1,4 +1,4 @@
--- Why a step is refused, and what it is that it is made.
+-- Why a step is refused, and when it is made.
 use Rattle.std.specs.Prelude.{◌≡◌, ℕ, ℤ, Bool, true, false, List, Option, Some, None, if◌then◌else◌}
 use Rattle.tx_base.specs.declared.steps.Refusal.{Refusal}
 use Rattle.tx_base.specs.declared.steps.Refusal.TheVariants.{BadNumber, NumberTaken, Wait}
@@ -15,16 +15,16 @@ use Rattle.tx_model.specs.State.{Process, Sending, State}
 abbrev pub IsMade : Effect → Type 0
 IsMade f = (rs : List ℤ) → IsAccepted (concluding_reply f.conclusion f.sends rs)
 
--- why the numbers that a call chooses are refused, the first reason that there is
+-- why the numbers that a call chooses are refused: the first reason
 abbrev pub number_refusal : ℕ → State → Choice → Option Refusal
 number_refusal width S choice = if is_bad_choice width choice then Some BadNumber else (if is_choice_in_use S choice then Some NumberTaken else None)
 
--- whether the rule has a step wait: if it does not, the step is made
+-- whether the step waits by its rule: if not, the step is made
 pub record TellsWait (actor : Actor) (waits : Bool) (rule : State → Effect) : Type 0 where
   pub refused : waits ≡ true → (held : ℕ → List Sending) → CountsHeld actor.inside held → rule (state_of held actor.parts.now) ≡ idle Wait
   pub made : waits ≡ false → (held : ℕ → List Sending) → CountsHeld actor.inside held → IsMade (rule (state_of held actor.parts.now))
 
--- whether a signal is to be caught where four caught ones are unfinished
+-- whether a signal would be caught while four caught ones are unfinished
 abbrev pub lacks_frame : Disposition → Process → Bool
 lacks_frame Ignored me = false
 lacks_frame Fatal me = false

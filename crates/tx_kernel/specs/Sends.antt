@@ -24,7 +24,7 @@ abbrev pub holds_more : Option Inside → TheSending → State → List Write
 holds_more None m S = []
 holds_more (Some inside) m S = SetHeld inside.starter (S.held inside.starter ++ m ∷ []) ∷ []
 
--- what a call comes to that sends so
+-- what a call that sends this comes to
 abbrev pub sent : Send → Rule
 sent (Answers ret) c = answers ret
 sent (Posts m) c = posts (sending_of m)
@@ -48,7 +48,7 @@ pub record IsSentBy (actor : Actor) (sends : Sends) (rule : State → Effect) : 
   pub handed_out : (held : ℕ → List TheSending) → CountsHeld actor.inside held →
       (before_sends (rule (state_of held actor.parts.now)) (state_of held actor.parts.now)).held ≡ held_after (inside_of actor.inside) sends held
 
--- a log that has a post at its end now, and the answer of it as that of the process: whatever the rule, if it posts this
+-- a log that now ends in a post, with its answer as that of the process: for every rule that posts this
 pub record PlansPosted (actor : Actor) (before now : List Change) (m : Sending) (outcome : Outcome) : Type 0 where
   pub plans : (rule : State → Effect) (objects : State → List Object) →
       ((held : ℕ → List TheSending) → CountsHeld actor.inside held → rule (state_of held actor.parts.now) ≡ effect_by actor (sent (Posts m)) (state_of held actor.parts.now)) →

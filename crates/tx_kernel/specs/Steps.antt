@@ -1,4 +1,4 @@
--- What the plan of a whole step is to be: the writes of the rule, its post, and the answer.
+-- What the plan of a whole step must be: the writes of the rule, its post, and the answer.
 use Rattle.std.specs.Prelude.{◌≡◌, ℕ, List, [], ◌∷◌, ◌++◌, Option}
 use Rattle.tx_base.specs.Slots.{slot_at}
 use Rattle.tx_base.specs.declared.names.Pid.{Pid}
@@ -25,13 +25,13 @@ target_objects Nothing = []
 target_objects (AtOnce m) = Proc m.target.0 ∷ []
 target_objects (AtCommit m) = []
 
--- these parts, and what else a step of the process comes to, are the effect's, its post made; bytes are shown of its memory then
+-- these parts, and what else a step of the process comes to, are the effect's with its post made; bytes are shown of its memory then
 pub record GivesStep (inside : Option Inside) (pid : Pid) (before after : Parts) (outcome : Outcome) (sends : Sends) (held : ℕ → List Sending) (effect : Effect) : Type 0 where
   pub state : after_effect effect (send_answers effect (state_of held before)) (state_of held before) ≡ state_of (held_after (inside_of inside) sends held) after
   pub sent : effect.sends ≡ sent_at_once sends
   pub reply : concluding_reply effect.conclusion effect.sends (send_answers effect (state_of held before)) ≡ reply_of (memory_in (process_in (slot_at after.procs pid.0))) outcome
 
--- a log that has a plan of a whole step at its end now
+-- a log that now ends in a plan of a whole step
 pub record PlansStep (actor : Actor) (before now : List Change) (outcome : Outcome) (sends : Sends) (rule : State → Effect) (objects : State → List Object) : Type 0 where
   pub plan : List Change
   pub added : now ≡ before ++ plan

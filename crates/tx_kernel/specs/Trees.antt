@@ -6,7 +6,7 @@ use Rattle.tx_kernel.specs.declared.actor.Actor.{Actor}
 use Rattle.tx_kernel.specs.declared.trees.Child.{Child}
 use Rattle.tx_proc.specs.declared.proc.Proc.{Proc}
 
--- the process as a child of process p, where that is its parent
+-- the process as a child of process p, if that is its parent
 abbrev pub child_by : ℕ → ℕ → Option Proc → Option Child
 child_by p t None = None
 child_by p t (Some proc) = if proc.parent.0 == p then Some (record { pid = record { 0 = t }; status = proc.status }) else None

@@ -12,14 +12,14 @@ use tx_base::{Pid, Refusal};
 use tx_change::Parts;
 use tx_proc::Proc;
 
-/// The process that makes a call or takes a signal, in the kernel as it stands.
+/// The process that makes a call or takes a signal, in the kernel as it is.
 #[derive(Clone, Copy)]
 pub struct Actor<'a> {
     pub parts: &'a Parts,
     pub pid: Pid,
     /// What the process number has.
     pub proc: &'a Proc,
-    /// The transaction that the step is made inside of, if it is in one.
+    /// The transaction that the step is made inside, if any.
     pub inside: Option<Inside<'a>>,
 }
 

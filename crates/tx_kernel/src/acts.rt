@@ -18,11 +18,11 @@ use tx_base::{Call, NoMemory, Pid, Refusal, Signo};
 use tx_change::{Log, Parts, appended};
 use tx_laws::well_formed;
 
-/// Makes a call of a process, its post with it, and appends to the log what leads back. A call of
-/// transactions answers EINVAL, as it does where it means nothing.
+/// Makes a call of a process, with its post, and appends to the log what leads back. A call of
+/// transactions answers EINVAL, as it does where it makes no sense.
 ///
 /// NoProcess and NotRunning where there is no such process or it has ended; and as
-/// `Actor::plan_call`. The parts and the log are then as they were.
+/// `Actor::plan_call` does. The parts and the log are then as they were.
 pub fn act(
     alloc: Global,
     parts: &mut Parts,
@@ -51,10 +51,10 @@ pub fn act(
     Ok(planned)
 }
 
-/// Delivers a pending signal to a process, its post with it, and appends to the log what leads back.
+/// Delivers a pending signal to a process, with its post, and appends to the log what leads back.
 ///
 /// NoProcess and NotRunning where there is no such process or it has ended; and as
-/// `Actor::plan_delivery`. The parts and the log are then as they were.
+/// `Actor::plan_delivery` does. The parts and the log are then as they were.
 pub fn deliver(
     alloc: Global,
     parts: &mut Parts,

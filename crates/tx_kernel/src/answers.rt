@@ -20,14 +20,14 @@ use tx_base::{Errno, NoMemory, Refusal};
 use tx_change::{Change, Log};
 use tx_proc::{Answer, Part};
 
-/// The answer that an error is.
+/// The answer for an error.
 pub(crate) fn failing(errno: Errno) -> i64
     ensures { result ≡ error_answer errno }
 {
     -(errno.number() as i64)
 }
 
-/// The answer that the result of a post is.
+/// The answer for the result of a post.
 pub(crate) fn answer_of(posted: Result<(), Errno>) -> i64
     ensures { result ≡ answer_of posted }
 {
@@ -38,7 +38,7 @@ pub(crate) fn answer_of(posted: Result<(), Errno>) -> i64
 }
 
 impl Actor<'_> {
-    /// Appends a new part of the process. After want of memory the log is as it was.
+    /// Appends a new part of the process. If memory is refused, the log is as it was.
     #[inline(always)] // a part is large, and would be copied once more
     pub(crate) fn push(&self, part: Part, log: &mut Log) -> Result<(), NoMemory>
         ensures ok { OnOk result (log.new ≡ log.old ++ SetPart self.now.pid part ∷ []) }
@@ -47,7 +47,7 @@ impl Actor<'_> {
         log.push(Change::Part(self.pid, part))
     }
 
-    /// Appends the answer at the next point. After want of memory the log is as it was.
+    /// Appends the answer at the next point. If memory is refused, the log is as it was.
     pub(crate) fn push_answer(&self, ret: i64, log: &mut Log) -> Result<(), NoMemory>
         ensures ok { OnOk result
             (log.new ≡ log.old ++ SetPart self.now.pid (SetAnswer (answer_after ret self.now))
@@ -57,7 +57,7 @@ impl Actor<'_> {
         log.push_answer(self.pid, Answer::at(self.proc.regs.point, ret))
     }
 
-    /// Plans an answer, and nothing else. After want of memory the log is as it was.
+    /// Plans only an answer. If memory is refused, the log is as it was.
     pub(crate) fn plan_answer(&self, ret: i64, log: &mut Log) -> Result<Outcome, NoMemory>
         ensures ok { IfOk result (λ outcome. PlansOwn self.now log.old log.new outcome
             (effect_by self.now (λ c. answers ret))) }
@@ -67,7 +67,7 @@ impl Actor<'_> {
         Ok(Outcome::Done(ret))
     }
 
-    /// Plans a new part of the process, of those that name nothing, and this answer.
+    /// Plans a new part of the process that names nothing, and this answer.
     #[inline(always)] // a part is large, and would be copied once more
     pub(crate) fn plan_part(
         &self,
@@ -88,7 +88,7 @@ impl Actor<'_> {
         Ok(Outcome::Done(answer))
     }
 
-    /// Plans an error as the answer, and nothing else. After want of memory the log is as it was.
+    /// Plans only an error as the answer. If memory is refused, the log is as it was.
     pub(crate) fn plan_error(&self, errno: Errno, log: &mut Log) -> Result<Outcome, NoMemory>
         ensures ok { IfOk result (λ outcome. PlansOwn self.now log.old log.new outcome
             (effect_by self.now (λ c. fails errno))) }
@@ -100,8 +100,7 @@ impl Actor<'_> {
         self.plan_answer(failing(errno), log)
     }
 
-    /// Plans this answer, and nothing else, as the whole of a step. After want of memory the log is
-    /// as it was.
+    /// Plans only this answer, as a whole step. If memory is refused, the log is as it was.
     pub(crate) fn plan_done(&self, ret: i64, log: &mut Log) -> Result<Planned, Refusal>
         requires { IsActor self.now }
         ensures ok { IfOk result (λ planned.
@@ -116,8 +115,8 @@ impl Actor<'_> {
         Ok(Planned::quiet(outcome))
     }
 
-    /// Plans an error as the answer, and nothing else, as the whole of a step. After want of memory
-    /// the log is as it was.
+    /// Plans only an error as the answer, as a whole step. If memory is refused, the log is as it
+    /// was.
     pub(crate) fn plan_failure(&self, errno: Errno, log: &mut Log) -> Result<Planned, Refusal>
         requires { IsActor self.now }
         ensures ok { IfOk result (λ planned.

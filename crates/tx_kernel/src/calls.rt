@@ -18,7 +18,7 @@ use tx_base::{Call, Errno, NoMemory, QUEUED, Refusal, SLOTS, Signo};
 use tx_change::Log;
 
 impl Actor<'_> {
-    /// Plans a call that concerns its own process alone. A call of transactions answers EINVAL.
+    /// Plans a call that concerns only its own process. A call of transactions answers EINVAL.
     fn plan_own(&self, alloc: Global, call: &Call, log: &mut Log) -> Result<Outcome, NoMemory>
         requires { IsActor self.now }
         ensures ok { concerns_itself_alone call.now ≡ true →
@@ -49,7 +49,7 @@ impl Actor<'_> {
         }
     }
 
-    /// Plans a call that sends no signal on demand: what it writes, and what it sends beside that.
+    /// Plans a call that sends no signal on demand: what it writes, and what else it sends.
     ///
     /// Refuses as the call's own plan does. A refusal may leave more in the log.
     fn plan_common(&self, alloc: Global, call: &Call, log: &mut Log) -> Result<Planned, Refusal>
@@ -84,7 +84,7 @@ impl Actor<'_> {
         }
     }
 
-    /// Plans any call, its post with it. A refusal may leave more in the log.
+    /// Plans any call, with its post. A refusal may leave more in the log.
     fn plan_any(&self, alloc: Global, call: &Call, log: &mut Log) -> Result<Planned, Refusal>
         requires { IsActor self.now }
         ensures ok { IfOk result (λ planned.
@@ -110,13 +110,13 @@ impl Actor<'_> {
         }
     }
 
-    /// Plans a call: appends its exchanges to the log, those of its post and of its answer with them,
-    /// and says the answer and what it sends. A call of transactions answers EINVAL, as it does where
-    /// it means nothing. Nothing is changed.
+    /// Plans a call: appends its exchanges to the log, with those of its post and its answer, and
+    /// gives the answer and what it sends. A call of transactions answers EINVAL, as it does where
+    /// it makes no sense. Nothing is changed.
     ///
-    /// Refuses by BadNumber where a number that the call chooses is out of range or chosen twice, by
-    /// NumberTaken where one is in use, by Wait where a read, a write or a waitpid waits, and by
-    /// NoMemory. The log is then as it was.
+    /// Refuses with BadNumber where a number that the call chooses is out of range or chosen twice,
+    /// with NumberTaken where one is in use, with Wait where a read, a write or a waitpid waits,
+    /// and with NoMemory. The log is then as it was.
     pub fn plan_call(&self, alloc: Global, call: &Call, log: &mut Log) -> Result<Planned, Refusal>
         requires { IsActor self.now }
         ensures ok { IfOk result (λ planned.
@@ -142,8 +142,8 @@ impl Actor<'_> {
 
     /// Plans the delivery of a pending signal, as `plan_call` does a call.
     ///
-    /// Refuses by NotDeliverable, Deferred and FramesFull, as its rule does, and by NoMemory. The log
-    /// is then as it was.
+    /// Refuses with NotDeliverable, Deferred and FramesFull, as its rule does, and with NoMemory.
+    /// The log is then as it was.
     pub fn plan_delivery(
         &self,
         alloc: Global,
@@ -167,7 +167,7 @@ impl Actor<'_> {
         planned
     }
 
-    /// Plans a delivery, its post with it. A refusal may leave more in the log.
+    /// Plans a delivery, with its post. A refusal may leave more in the log.
     fn plan_delivered(&self, alloc: Global, signo: Signo, log: &mut Log) -> Result<Planned, Refusal>
         requires { IsActor self.now }
         ensures ok { IfOk result (λ planned.
@@ -184,8 +184,9 @@ impl Actor<'_> {
     }
 }
 
-/// How many changes a call may make that makes more than four: their room is taken at once. A call
-/// that may wait takes its room when that is decided, and so does one whose changes are counted first.
+/// How many changes a call that makes more than four may make: their room is taken at once. A call
+/// that may wait takes its room when that is decided, and so does one whose changes are counted
+/// first.
 fn most_changes(call: &Call) -> usize {
     match call {
         Call::Pipe(_, _, _) => 8,

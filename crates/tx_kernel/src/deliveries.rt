@@ -20,11 +20,11 @@ use tx_change::Log;
 use tx_proc::{Answer, BoxedFrame, Part};
 use tx_signal::{Frame, is_ignored, is_realtime, with, without};
 
-/// Where a caught signal goes on.
+/// Where the process goes on when the signal is caught.
 #[derive(Clone, Copy)]
 struct Catch {
     point: u32,
-    /// The signals that are blocked too.
+    /// The signals that are also blocked.
     mask: SigSet,
     /// What the signal brings.
     value: i64,
@@ -34,10 +34,11 @@ impl Actor<'_> {
     /// Delivers a pending signal to the process, by its action: it is ignored, it is caught, or it
     /// ends the process (POSIX.1-2017, XSH, Signal Actions).
     ///
-    /// Refuses by NotDeliverable where the signal is not pending, or the mask blocks it, or it is a
-    /// realtime signal and one of a lower number is pending that the mask does not block; by Deferred
-    /// where the transaction defers it, but SIGKILL never; by FramesFull where it is caught and four
-    /// caught signals are unfinished; and by NoMemory. A refusal may leave more in the log.
+    /// Refuses with NotDeliverable where the signal is not pending, or the mask blocks it, or it is
+    /// a realtime signal and one of a lower number is pending that the mask does not block; with
+    /// Deferred where the transaction defers it, which SIGKILL never is; with FramesFull where it
+    /// is caught and four caught signals are unfinished; and with NoMemory. A refusal may leave
+    /// more in the log.
     pub(crate) fn plan_taken(
         &self,
         alloc: Global,
@@ -61,7 +62,7 @@ impl Actor<'_> {
         self.plan_acted(alloc, signo, value, log)
     }
 
-    /// Whether the transaction defers the delivery: that of SIGKILL never. Own rule.
+    /// Whether the transaction defers the delivery, never that of SIGKILL. Own rule.
     pub(crate) fn is_deferred(&self, signo: Signo) -> bool
         ensures { result ≡ is_deferred (inside_of self.now.inside) signo.0 }
     {
@@ -71,7 +72,7 @@ impl Actor<'_> {
         }
     }
 
-    /// Plans what the action of the signal makes of its delivery. The process must not be process 1.
+    /// Plans the delivery by the signal's action. The process must not be process 1.
     fn plan_acted(
         &self,
         alloc: Global,
@@ -110,7 +111,7 @@ impl Actor<'_> {
         Ok(Planned::quiet(outcome))
     }
 
-    /// Plans the delivery of a signal that is ignored: it is pending no more, and that is all.
+    /// Plans the delivery of a signal that is ignored: it is only no longer pending.
     fn plan_ignored(&self, signo: Signo, log: &mut Log) -> Result<Outcome, NoMemory>
         ensures ok { IfOk result (λ outcome. PlansOwn self.now log.old log.new outcome
             (effect_by self.now (λ c. stands
@@ -152,7 +153,7 @@ impl Actor<'_> {
         Ok(Outcome::Done(value))
     }
 
-    /// Appends the exchange that takes the signal out of what is pending: of a realtime one the
+    /// Appends the exchange that takes the signal out of what is pending: for a realtime one, its
     /// first entry.
     fn push_relieved(&self, signo: Signo, log: &mut Log) -> Result<(), NoMemory>
         ensures ok { OnOk result (PlansPart self.now log.old log.new (without_delivered signo.0)) }

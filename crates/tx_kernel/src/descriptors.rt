@@ -23,13 +23,13 @@ use tx_pipe::Pipe;
 use tx_proc::{Part, Register};
 
 impl Actor<'_> {
-    /// Makes the pipe of this number with the descriptions of its two sides, and has the two lowest
-    /// free descriptors name them, the reading side first (POSIX.1-2017, XSH, pipe()). The first two
-    /// slots of the registers keep the descriptors.
+    /// Makes the pipe of this number with the descriptions of its two sides, and makes the two
+    /// lowest free descriptors name them, the reading side first (POSIX.1-2017, XSH, pipe()). The
+    /// first two slots of the registers keep the descriptors.
     ///
     /// Answers EMFILE where fewer than two descriptors are free. BadNumber where a number is out of
-    /// range or both descriptions have the same, NumberTaken where one is in use, and NoMemory where a
-    /// growth is refused; the log then has more at its end at most.
+    /// range or both descriptions have the same, NumberTaken where one is in use, and NoMemory
+    /// where a growth is refused; the log may then have more at its end.
     pub(crate) fn plan_pipe(
         &self,
         alloc: Global,
@@ -71,8 +71,8 @@ impl Actor<'_> {
     /// dup()).
     ///
     /// Answers EBADF where the descriptor is not 0 to 15 or is not open, and EMFILE where no
-    /// descriptor is free. NoMemory where a growth is refused; the log then has more at its end at
-    /// most.
+    /// descriptor is free. NoMemory where a growth is refused; the log may then have more at its
+    /// end.
     pub(crate) fn plan_dup(&self, fd: i64, log: &mut Log) -> Result<Planned, Refusal>
         requires { IsActor self.now }
         ensures ok { IfOk result (λ planned. Plans self.now log.old log.new planned
@@ -95,11 +95,11 @@ impl Actor<'_> {
         }
     }
 
-    /// Has a descriptor name the description of another one (POSIX.1-2017, XSH, dup2()). What it named
-    /// before is given up as by a close; where the two are the same nothing changes.
+    /// Makes a descriptor name the description of another one (POSIX.1-2017, XSH, dup2()). What it
+    /// named before is given up as by a close; if the two are the same, nothing changes.
     ///
-    /// Answers EBADF where the first descriptor is not 0 to 15 or is not open, or the second is not 0
-    /// to 15. NoMemory where a growth is refused; the log then has more at its end at most.
+    /// Answers EBADF where the first descriptor is not 0 to 15 or is not open, or the second is not
+    /// 0 to 15. NoMemory where a growth is refused; the log may then have more at its end.
     pub(crate) fn plan_dup2(&self, fd: i64, other: i64, log: &mut Log) -> Result<Planned, Refusal>
         requires { IsActor self.now }
         ensures ok { IfOk result (λ planned. Plans self.now log.old log.new planned
@@ -128,10 +128,10 @@ impl Actor<'_> {
     }
 
     /// Closes a descriptor (POSIX.1-2017, XSH, close()). A description that nothing names any more
-    /// goes, and the pipe with the last description of it.
+    /// goes, and a pipe goes with its last description.
     ///
     /// Answers EBADF where the descriptor is not 0 to 15 or is not open. NoMemory where a growth is
-    /// refused; the log then has more at its end at most.
+    /// refused; the log may then have more at its end.
     pub(crate) fn plan_close(&self, fd: i64, log: &mut Log) -> Result<Planned, Refusal>
         requires { IsActor self.now }
         ensures ok { IfOk result (λ planned. Plans self.now log.old log.new planned
@@ -154,11 +154,11 @@ impl Actor<'_> {
         }
     }
 
-    /// Says whether reads and writes of the description of a descriptor are refused where they
+    /// Sets whether reads and writes of the description of a descriptor are refused where they
     /// would wait (POSIX.1-2017, XSH, fcntl(), O_NONBLOCK).
     ///
     /// Answers EBADF where the descriptor is not 0 to 15 or is not open. NoMemory where a growth is
-    /// refused; the log then has more at its end at most.
+    /// refused; the log may then have more at its end.
     pub(crate) fn plan_nonblock(&self, fd: i64, on: bool, log: &mut Log) -> Result<Planned, Refusal>
         requires { IsActor self.now }
         ensures ok { IfOk result (λ planned. Plans self.now log.old log.new planned
@@ -217,8 +217,8 @@ impl Actor<'_> {
         Ok(())
     }
 
-    /// Appends that a slot of the registers keeps a descriptor. After want of memory the log is as it
-    /// was.
+    /// Appends the change by which a slot of the registers keeps a descriptor. If memory is
+    /// refused, the log is as it was.
     fn push_slot(&self, number: usize, fd: usize, log: &mut Log) -> Result<(), NoMemory>
         requires { fd < 16 }
         ensures ok { OnOk result (log.new ≡ log.old ++ slot_change self.now.pid number fd ∷ []) }
@@ -228,7 +228,7 @@ impl Actor<'_> {
         self.push(Part::Register(Register { number, value }), log)
     }
 
-    /// Appends what a descriptor is to name. After want of memory the log is as it was.
+    /// Appends the change of what a descriptor names. If memory is refused, the log is as it was.
     #[inline(always)] // as `push`
     fn push_name(&self, new: NewName, log: &mut Log) -> Result<(), NoMemory>
         ensures ok { OnOk result (log.new ≡ log.old ++ name_changes self.now.pid (new ∷ [])) }
@@ -237,7 +237,8 @@ impl Actor<'_> {
         self.push(Part::Descriptor(new.fd, new.name), log)
     }
 
-    /// Appends what a description number is to have. After want of memory the log is as it was.
+    /// Appends the change of what a description number has. If memory is refused, the log is as it
+    /// was.
     #[inline(always)] // as `push`
     fn push_desc(&self, new: NewDesc, log: &mut Log) -> Result<(), NoMemory>
         ensures ok { OnOk result (log.new ≡ log.old ++ desc_changes (new ∷ [])) }
@@ -246,8 +247,8 @@ impl Actor<'_> {
         log.push(Change::Description(new.number, new.opened))
     }
 
-    /// Appends that the pipe of a description which is gone goes too, where none names it once these
-    /// are in place. After want of memory the log is as it was.
+    /// Appends the change by which the pipe of a description that is gone goes too, if none names
+    /// it once these are in place. If memory is refused, the log is as it was.
     fn push_endless(
         &self,
         gone: Option<Desc>,

@@ -23,9 +23,10 @@ use tx_proc::{BoxedProc, Part};
 
 impl Actor<'_> {
     /// Ends the process with this status: its descriptors are closed, its children get process 1 as
-    /// their parent, and its parent is told (POSIX.1-2017, XSH, _exit()). It must not be process 1.
+    /// their parent, and its parent is notified (POSIX.1-2017, XSH, _exit()). It must not be
+    /// process 1.
     ///
-    /// Refuses by NoMemory alone, which may leave more in the log.
+    /// Refuses only with NoMemory, which may leave more in the log.
     pub(crate) fn plan_ending(
         &self,
         alloc: Global,
@@ -76,7 +77,7 @@ impl Actor<'_> {
         Ok(())
     }
 
-    /// Appends the change that gives a process parent 1, where it is a child of the process.
+    /// Appends the change that gives a process parent 1, if it is a child of the process.
     fn push_orphan(&self, child: Pid, log: &mut Log) -> Result<(), NoMemory>
         ensures ok { OnOk result
             (log.new ≡ log.old ++ orphan_changes
@@ -113,8 +114,8 @@ impl Actor<'_> {
         Ok(())
     }
 
-    /// Appends the change that takes out the pipe of a descriptor, if it has one, where none of these
-    /// descriptions names that.
+    /// Appends the change that takes out the pipe of a descriptor, if it has one and none of these
+    /// descriptions names it.
     fn push_gone_at(&self, fd: usize, after: &Descs, log: &mut Log) -> Result<(), NoMemory>
         ensures ok { OnOk result (log.new ≡ log.old ++ gone_at
             (pipe_through self.now.parts.now.descs
@@ -130,7 +131,7 @@ impl Actor<'_> {
         }
     }
 
-    /// The pipe of the description that a descriptor names; nothing where it is free.
+    /// The pipe of the description that a descriptor names; none if it is free.
     fn pipe_of(&self, fd: usize) -> Option<PipeNo>
         ensures { result ≡ pipe_through self.now.parts.now.descs
             (slice_index_or self.now.proc.now.descriptors fd None) }
@@ -141,7 +142,7 @@ impl Actor<'_> {
     }
 
     /// What the end of the process sends: SIGCHLD to its parent, unless that is process 1. A parent
-    /// that is no member of the transaction is told when that commits. Own rule.
+    /// that is no member of the transaction is notified when that commits. Own rule.
     pub(crate) fn tells_parent(&self) -> Sends
         ensures at_once { notice_now
             (parent_notice (inside_of self.now.inside) self.now.proc.now.parent.0)
@@ -173,7 +174,7 @@ impl Actor<'_> {
     }
 }
 
-/// Whether one of these descriptions is to go.
+/// Whether one of these descriptions must go.
 fn takes_out(news: &[NewDesc]) -> bool
     ensures { result ≡ takes_out news.now }
 {

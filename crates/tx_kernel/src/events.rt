@@ -19,16 +19,15 @@ pub enum Act<'a> {
     Call(&'a Call),
     /// It takes a pending signal.
     Delivery(Signo),
-    /// It stands at its next point with this answer, and nothing else: so does a call of
-    /// transactions.
+    /// It is at its next point with this answer, and nothing else: so a call of transactions ends.
     Answer(i64),
 }
 
 impl Actor<'_> {
-    /// Plans what the process does, as `plan_call` and `plan_delivery`: appends its
-    /// exchanges to the log, those of its post with them. Nothing is changed.
+    /// Plans what the process does, as `plan_call` and `plan_delivery` do: appends its exchanges to
+    /// the log, with those of its post. Nothing is changed.
     ///
-    /// Refuses as these do, and an answer by NoMemory alone. The log is then as it was.
+    /// Refuses as these do, and an answer only with NoMemory. The log is then as it was.
     pub fn plan(&self, alloc: Global, act: &Act, log: &mut Log) -> Result<Planned, Refusal>
         requires { IsActor self.now }
         ensures ok { IfOk result (λ planned. PlansEvent self.now log.old log.new planned
@@ -44,7 +43,7 @@ impl Actor<'_> {
         }
     }
 
-    /// Plans an answer, and nothing else. Refuses by NoMemory alone; the log is then as it was.
+    /// Plans only an answer. Refuses only with NoMemory; the log is then as it was.
     fn plan_note(&self, ret: i64, log: &mut Log) -> Result<Planned, Refusal>
         requires { IsActor self.now }
         ensures ok { IfOk result (λ planned.

@@ -85,7 +85,7 @@ impl Actor<'_> {
         }
     }
 
-    /// Plans a number that is not negative as the answer, and nothing else.
+    /// Plans only a number that is not negative as the answer.
     fn plan_natural(&self, number: u16, log: &mut Log) -> Result<Outcome, NoMemory>
         ensures ok { IfOk result (λ outcome. PlansOwn self.now log.old log.new outcome
             (effect_by self.now (λ c. answers (pos number)))) }
@@ -94,7 +94,7 @@ impl Actor<'_> {
         self.plan_answer(number as i64, log)
     }
 
-    /// Plans these ids, and to answer 0.
+    /// Plans these ids, and the answer 0.
     fn plan_ids(&self, cred: Cred, log: &mut Log) -> Result<Outcome, NoMemory>
         ensures page { (page : Rule) → ComesTo self.now page (with_ids (ids_of cred)) →
             IfOk result (λ outcome.

@@ -1,11 +1,11 @@
-//! The transaction that a step is made inside of.
+//! The transaction that a step is made inside.
 ghost use Rattle.std.specs.Prelude.{◌≡◌, ◌==◌};
 ghost use Rattle.tx_base.specs.Slots.{slot_at};
 ghost use Rattle.tx_model.specs.Membership.{is_of};
 
 use tx_base::{Mark, Pid, Slots};
 
-/// The transaction that a step is made inside of.
+/// The transaction that a step is made inside.
 #[derive(Clone, Copy)]
 pub struct Inside<'a> {
     /// The process that began it.

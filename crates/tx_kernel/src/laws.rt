@@ -1,4 +1,4 @@
-//! The laws that the plans stand on, and those of the states that they are for.
+//! The laws that the proofs of plans use, and those of their states.
 ghost use Rattle.tx_kernel.specs.Acts.{PlansAreMade};
 ghost use Rattle.tx_kernel.specs.Laws.{BootedAreWhole, PlanLaws};
 
@@ -9,7 +9,7 @@ use tx_change::{
 };
 use tx_laws::well_formed;
 
-/// The laws on which the proofs of the plans stand. It does nothing.
+/// The laws that the proofs of plans use. It does nothing.
 pub(crate) fn laws()
     ensures { PlanLaws }
 {
@@ -27,7 +27,7 @@ pub(crate) fn laws()
     stays_named();
 }
 
-/// Parts that stand as `Parts::boot` makes them, of 1 to 256 processes, are whole.
+/// Parts as `Parts::boot` makes them, of 1 to 256 processes, are whole.
 pub fn booted_are_whole()
     ensures { BootedAreWhole }
 {

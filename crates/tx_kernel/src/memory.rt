@@ -47,7 +47,7 @@ impl Actor<'_> {
         }
     }
 
-    /// Says whether a page may be written. Own rule.
+    /// Sets whether a page may be written. Own rule.
     pub(crate) fn plan_protect(
         &self,
         page: i64,
@@ -78,7 +78,7 @@ impl Actor<'_> {
         ensures err { OnErr result (Extends log.old log.new) }
     {
         let bytes = bytes.as_slice();
-        // Most often the bytes lie on one page, and no list of pages is wanted.
+        // Most often the bytes are on one page, and no list of pages is needed.
         match self.proc.space.plan_store_on_page(alloc, address, bytes) {
             Some(Ok(new)) => self.plan_page(new, log),
             Some(Err(PageError::NoMemory)) => Err(NoMemory),
@@ -87,7 +87,7 @@ impl Actor<'_> {
         }
     }
 
-    /// Stores bytes from an address on, all of them or none, on however many pages they lie. Own
+    /// Stores bytes from an address on, all of them or none, on however many pages they are. Own
     /// rule.
     #[inline(never)] // inlined, it would have room for its list made for every store
     fn plan_store_on_pages(
@@ -120,7 +120,7 @@ impl Actor<'_> {
         }
     }
 
-    /// Plans to put one page number in place, and to answer 0.
+    /// Plans the page of one number, and the answer 0.
     fn plan_page(&self, new: NewPage, log: &mut Log) -> Result<Outcome, NoMemory>
         requires { new.number < 16 }
         ensures page { (page : Rule) →
@@ -133,7 +133,7 @@ impl Actor<'_> {
         self.plan_part(Part::Page(new.number, new.page), 0, log)
     }
 
-    /// Plans to put these pages in place, and to answer 0.
+    /// Plans these pages, and the answer 0.
     fn plan_pages(&self, new: NewPages, log: &mut Log) -> Result<Outcome, NoMemory>
         requires { AreNumbered new.pages.items }
         ensures ok { IfOk result (λ outcome. PlansOwn self.now log.old log.new outcome

@@ -42,7 +42,7 @@ impl Actor<'_> {
         self.tells_parent()
     }
 
-    /// The signal that a delivery sends: where it ends the process, its parent is told.
+    /// The signal that a delivery sends: if it ends the process, its parent is notified.
     pub fn sends_of_delivery(&self, signo: Signo) -> Sends
         requires { IsActor self.now }
         ensures { IsSentBy self.now result (effect_by self.now (delivery signo.0)) }

@@ -1,7 +1,7 @@
 //! What a planned step comes to: its answer, and the signal that it sends.
 use tx_base::Sending;
 
-/// Bytes of memory that are to be shown.
+/// Bytes of memory to show.
 #[derive(Clone, Copy)]
 pub struct Shown {
     /// The address of the first byte: 0 to 1,023.
@@ -31,7 +31,7 @@ pub enum Sends {
     AtCommit(Sending),
 }
 
-/// What a planned step comes to, beside its changes.
+/// What a planned step comes to, besides its changes.
 #[derive(Clone, Copy)]
 pub struct Planned {
     /// Its answer.

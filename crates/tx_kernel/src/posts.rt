@@ -24,7 +24,7 @@ use tx_laws::well_formed;
 use tx_proc::{Part, Proc};
 use tx_signal::{Queued, is_realtime, with};
 
-/// What of a process decides how a post to it is answered.
+/// What decides how a post to a process is answered.
 #[derive(Clone, Copy)]
 pub struct Face {
     pub ids: Cred,
@@ -63,8 +63,8 @@ impl Face {
         Err(Errno::TryAgain)
     }
 
-    /// Whether a post to a process with this face gets to what is pending there: the sender may signal
-    /// it, and the signal is not one that changes nothing.
+    /// Whether a post to a process with this face reaches what is pending there: the sender may
+    /// signal it, and the signal is not one that changes nothing.
     pub fn reaches(&self, sending: &Sending) -> bool
         ensures { (q : Process) → HasFace self.now q →
             result ≡ may_signal (sender_of sending.now.from) q.ids
@@ -97,15 +97,15 @@ impl Face {
 pub struct Posted {
     /// `Ok` where the signal was sent, or the sender only asked.
     pub answer: Result<(), Errno>,
-    /// What was pending before, where that changed: exchanged again, it takes the post back.
+    /// What was pending before, if that changed: exchanged again, it takes the post back.
     pub change: Option<Change>,
 }
 
 /// Posts a signal, whose number must be below 64. It takes no memory (POSIX.1-2017, XSH, Signal
 /// Concepts and kill()).
 ///
-/// NoSuchProcess where there is no such process; NotPermitted and TryAgain as at `Face::answer`. Such a
-/// post changes nothing.
+/// NoSuchProcess where there is no such process; NotPermitted and TryAgain as for `Face::answer`.
+/// Such a post changes nothing.
 pub fn post(parts: &mut Parts, sending: &Sending) -> Posted
     requires { sending.now.signo.0 < 64 }
     ensures answer { (held : ℕ → List TheSending) →
@@ -144,7 +144,7 @@ pub fn post(parts: &mut Parts, sending: &Sending) -> Posted
     }
 }
 
-/// What a post to the process of a number is to exchange: nothing where it changes nothing.
+/// What a post to the process of a number exchanges: nothing if it changes nothing.
 pub(crate) fn plan_at(parts: &Parts, sending: &Sending) -> Result<Option<Part>, Errno>
     requires { sending.now.signo.0 < 64 }
     ensures { PlansAt parts.now (sending_of sending.now) result }
@@ -155,10 +155,10 @@ pub(crate) fn plan_at(parts: &Parts, sending: &Sending) -> Result<Option<Part>, 
     }
 }
 
-/// What a post to the process is to exchange: nothing where it changes nothing. The signal's number
-/// must be below 64.
+/// What a post to the process exchanges: nothing if it changes nothing. The signal's number must be
+/// below 64.
 ///
-/// NotPermitted and TryAgain as at `Face::answer`; such a post changes nothing.
+/// NotPermitted and TryAgain as for `Face::answer`; such a post changes nothing.
 pub fn plan_post(proc: &Proc, sending: &Sending) -> Result<Option<Part>, Errno>
     requires { sending.now.signo.0 < 64 }
     ensures answer { answer_of (without_part result)
@@ -178,7 +178,7 @@ pub fn plan_post(proc: &Proc, sending: &Sending) -> Result<Option<Part>, Errno>
     Ok(Some(plan_pending(proc, sending)))
 }
 
-/// What a post that is let through is to exchange, where there is room for it.
+/// What a permitted post exchanges, if there is room for it.
 fn plan_pending(proc: &Proc, sending: &Sending) -> Part
     requires number { sending.now.signo.0 < 64 }
     requires room { is_realtime sending.now.signo.0 ≡ true →

@@ -1,4 +1,4 @@
-//! Why a step is refused, told before it is planned and without memory.
+//! Why a step is refused, before it is planned and without memory.
 ghost use Rattle.std.specs.Prelude.{◌≡◌, ◌≢◌, ℕ, List, false, length, IfNone, IfSome};
 ghost use Rattle.tx_change.specs.States.{state_of};
 ghost use Rattle.tx_kernel.specs.Actors.{CountsHeld, IsActor, effect_by, inside_of, me_of};
@@ -21,8 +21,8 @@ impl Actor<'_> {
     /// Why the rule of a call refuses it, if it does: NumberTaken where a fork or a pipe chooses a
     /// number that is in use, and Wait where a read, a write or a waitpid waits. It takes no memory.
     ///
-    /// A call that its rule does not refuse is made, if there is memory and it chooses good numbers:
-    /// `refusal_of_numbers` tells these.
+    /// A call that its rule does not refuse is made, if there is memory and it chooses good
+    /// numbers: `refusal_of_numbers` says whether it does.
     pub fn refusal_of_call(&self, call: &Call) -> Option<Refusal>
         requires { IsActor self.now }
         ensures refused { IfSome result (λ why.

@@ -60,7 +60,7 @@ impl Actor<'_> {
         Ok(Outcome::Done(ret))
     }
 
-    /// Shows so many bytes at an address. Own rule.
+    /// Shows this many bytes at an address. Own rule.
     ///
     /// -200 inside a transaction. EINVAL where the count is not 0 to 64, EFAULT where the bytes may
     /// not be read.
@@ -101,7 +101,7 @@ impl Actor<'_> {
     }
 }
 
-/// Whether a jump is made where this is the last answer.
+/// Whether a jump is made when this is the last answer.
 fn does_jump(when: When, ret: i64) -> bool
     ensures { result ≡ is_jump_taken when ret }
 {

@@ -42,7 +42,7 @@ impl Send {
     }
 }
 
-/// The signal that a program computed, or 0, which only asks; nothing where there is no such signal.
+/// The signal that a program computed, or 0, which only asks; none if there is no such signal.
 pub fn sendable(number: i64) -> Option<Signo>
     ensures number { option_map number_of result ≡ sendable number }
     ensures low { IfSome result (λ signo. signo.0 < 40) }
@@ -76,7 +76,7 @@ impl Actor<'_> {
         })
     }
 
-    /// Posts a signal, but holds a member's to a process that is no member. Own rule: signal 0 is
+    /// Posts a signal, but holds one from a member to a process that is none. Own rule: signal 0 is
     /// closed there, and 32 may be held.
     fn hand_out(&self, sending: Sending) -> Send
         requires { sending.signo.0 < 64 }
@@ -102,13 +102,13 @@ impl Actor<'_> {
         }
     }
 
-    /// Sends a process a signal with a value, and answers the answer of its post, or 0 where it is
-    /// held (POSIX.1-2017, XSH, sigqueue(), and with the value 0 kill()).
+    /// Sends a process a signal with a value, and answers what its post answers, or 0 if it is held
+    /// (POSIX.1-2017, XSH, sigqueue(), and with the value 0 kill()).
     ///
-    /// Answers InvalidArgument where there is no such signal, then NoSuchProcess where the number is
-    /// not 1 to the width; inside a transaction, to a process that is no member, -200 for signal 0 and
-    /// TryAgain where 32 are held; and what a post answers. After want of memory the log has more at
-    /// its end.
+    /// Answers InvalidArgument where there is no such signal, then NoSuchProcess where the number
+    /// is not 1 to the width; inside a transaction, to a process that is no member, -200 for signal
+    /// 0 and TryAgain where 32 are held; and what a post answers. If memory is refused, the log has
+    /// more at its end.
     pub(crate) fn plan_send(
         &self,
         target: i64,
@@ -147,8 +147,8 @@ impl Actor<'_> {
         }
     }
 
-    /// Plans a post, and its answer as that of the process. After want of memory the log has more at
-    /// its end.
+    /// Plans a post, and its answer as that of the process. If memory is refused, the log has more
+    /// at its end.
     fn plan_posted(&self, sending: &Sending, log: &mut Log) -> Result<Outcome, NoMemory>
         requires actor { IsActor self.now }
         requires signal { sending.now.signo.0 < 64 }

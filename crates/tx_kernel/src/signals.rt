@@ -20,11 +20,10 @@ use tx_proc::{Answer, BoxedFrame, Part, Register};
 use tx_signal::{is_bad, is_ignored, known, maskable_action, masked, without};
 
 impl Actor<'_> {
-    /// Says what is done about a signal (POSIX.1-2017, XSH, sigaction()). To ignore it discards it
+    /// Sets what is done about a signal (POSIX.1-2017, XSH, sigaction()). Ignoring it discards it
     /// where it is pending.
     ///
-    /// EINVAL where the number is not one of a signal, or is SIGKILL's, or a catch point is over
-    /// 65,535.
+    /// EINVAL where the number is no signal's, or is SIGKILL's, or a catch point is over 65,535.
     pub(crate) fn plan_sigaction(
         &self,
         signo: i64,
@@ -44,7 +43,7 @@ impl Actor<'_> {
         self.plan_action(signo, action, log)
     }
 
-    /// Plans an action that may be, and to answer 0.
+    /// Plans a valid action, and the answer 0.
     fn plan_action(&self, signo: Signo, action: Action, log: &mut Log) -> Result<Outcome, NoMemory>
         ensures ok { IfOk result (λ outcome. PlansOwn self.now log.old log.new outcome
             (effect_by self.now (λ c. changes (pos 0)
@@ -59,7 +58,7 @@ impl Actor<'_> {
         Ok(Outcome::Done(0))
     }
 
-    /// Appends the exchanges that discard the signal, where it is ignored.
+    /// Appends the exchanges that discard the signal, if it is ignored.
     fn push_ignored(&self, signo: Signo, action: Action, log: &mut Log) -> Result<(), NoMemory>
         ensures ok { OnOk result
             (PlansPart self.now log.old log.new (λ me.
@@ -130,8 +129,8 @@ impl Actor<'_> {
         Ok(outcome)
     }
 
-    /// Goes back to where the newest caught signal was caught: its registers and its mask stand
-    /// again. Own rule.
+    /// Goes back to where the newest caught signal was caught, with its registers and mask. Own
+    /// rule.
     ///
     /// EINVAL where no caught signal is unfinished.
     pub(crate) fn plan_sigreturn(&self, alloc: Global, log: &mut Log) -> Result<Outcome, NoMemory>

@@ -18,8 +18,8 @@ use tx_base::{Errno, NoMemory, Sending};
 use tx_change::{Change, Log};
 
 impl Actor<'_> {
-    /// Appends what a post exchanges, if anything, and gives its answer. After want of memory the log
-    /// is as it was.
+    /// Appends what a post exchanges, if anything, and gives its answer. If memory is refused, the
+    /// log is as it was.
     pub(crate) fn push_post(
         &self,
         sending: &Sending,
@@ -41,7 +41,7 @@ impl Actor<'_> {
     }
 
     /// Appends the post of a planned step, if it makes one: the log then has the plan of the whole
-    /// step. After want of memory the log has more at its end.
+    /// step. If memory is refused, the log has more at its end.
     pub(crate) fn push_sends(&self, planned: &Planned, log: &mut Log) -> Result<(), NoMemory>
         requires { HasSignal planned.now.sends }
         ensures ok { OnOk result

@@ -30,7 +30,7 @@ use tx_desc::{Desc, Side};
 use tx_pages::Access;
 use tx_pipe::Pipe;
 
-/// What a write comes to, where it is no error.
+/// What a write comes to, if it is no error.
 #[derive(Clone, Copy)]
 pub(crate) enum Writing {
     /// No byte was asked for.
@@ -39,29 +39,29 @@ pub(crate) enum Writing {
     Breaks,
     /// There is no room, and the description blocks.
     Waits,
-    /// So many bytes go to the pipe.
+    /// This many bytes go to the pipe.
     Puts(PipeNo, usize),
 }
 
-/// What a read comes to, where it is no error.
+/// What a read comes to, if it is no error.
 #[derive(Clone, Copy)]
 pub(crate) enum Reading {
     /// No byte was asked for, or the pipe is empty and no writer is left.
     Nothing,
     /// The pipe is empty, and the description blocks.
     Waits,
-    /// So many bytes come from the pipe.
+    /// This many bytes come from the pipe.
     Takes(PipeNo, usize),
 }
 
 impl Actor<'_> {
-    /// Reads up to so many bytes from the pipe of a descriptor to an address (POSIX.1-2017, XSH,
+    /// Reads up to this many bytes from the pipe of a descriptor to an address (POSIX.1-2017, XSH,
     /// read()).
     ///
-    /// Answers EBADF where the descriptor is not 0 to 15 or is not open for reading, EINVAL where the
-    /// count is not 0 to 512, EFAULT where bytes may not be written, and EAGAIN where the pipe is
-    /// empty with a writer left and the description does not block. Wait where it does; NoMemory
-    /// where a growth is refused. The log then has more at its end at most.
+    /// Answers EBADF where the descriptor is not 0 to 15 or is not open for reading, EINVAL where
+    /// the count is not 0 to 512, EFAULT where bytes may not be written, and EAGAIN where the pipe
+    /// is empty with a writer left and the description does not block. Wait where it does; NoMemory
+    /// where a growth is refused. The log may then have more at its end.
     pub(crate) fn plan_read(
         &self,
         alloc: Global,
@@ -93,7 +93,7 @@ impl Actor<'_> {
         }
     }
 
-    /// Appends that bytes go from a pipe to the memory, at an address that is good for them.
+    /// Appends the move of bytes from a pipe to the memory, at an address that is good for them.
     fn push_take(
         &self,
         alloc: Global,
@@ -106,7 +106,7 @@ impl Actor<'_> {
         ensures ok { OnOk result (TakesBytes self.now log.old log.new pipe address n) }
         ensures err { OnErr result (Extends log.old log.new) }
     {
-        // The address is good, so want of memory is the only error that is left.
+        // The address is good, so NoMemory is the only error left.
         let Ok(new) = self
             .proc
             .space
@@ -154,7 +154,7 @@ impl Actor<'_> {
         self.taking(desc, n)
     }
 
-    /// What a read of up to so many bytes from the description comes to.
+    /// What a read of up to this many bytes from the description comes to.
     fn taking(&self, desc: Desc, n: usize) -> Result<Reading, Errno>
         ensures effect { (fd address count : ℤ) (held : ℕ → List TheSending) →
             AsksFor self.now desc n fd address count held →
@@ -178,11 +178,11 @@ impl Actor<'_> {
     /// Writes bytes from an address on to the pipe of a descriptor, all of them or none (POSIX.1-2017,
     /// XSH, write()).
     ///
-    /// Answers EBADF where the descriptor is not 0 to 15 or is not open for writing, EINVAL where the
-    /// count is not 0 to 512, EFAULT where bytes are not mapped, EPIPE where no reader is left, which
-    /// also sends SIGPIPE to the process, and EAGAIN where there is no room and the description does
-    /// not block. Wait where there is no room and it does; NoMemory where a growth is refused. The log
-    /// then has more at its end at most.
+    /// Answers EBADF where the descriptor is not 0 to 15 or is not open for writing, EINVAL where
+    /// the count is not 0 to 512, EFAULT where bytes are not mapped, EPIPE where no reader is left,
+    /// which also sends SIGPIPE to the process, and EAGAIN where there is no room and the
+    /// description does not block. Wait where there is no room and it does; NoMemory where a growth
+    /// is refused. The log may then have more at its end.
     pub(crate) fn plan_write(
         &self,
         alloc: Global,
@@ -226,7 +226,7 @@ impl Actor<'_> {
         }
     }
 
-    /// The signal that a write sends which comes to this.
+    /// The signal that a write that comes to this sends.
     fn sends_of(&self, writing: Writing) -> Sends
         ensures { (address : ℤ) →
             IsSentBy self.now result (effect_by self.now (writing_outcome address (Ok writing))) }
@@ -239,8 +239,8 @@ impl Actor<'_> {
         }
     }
 
-    /// Appends the answer of a write that no reader is left for, and says what it comes to. After want
-    /// of memory the log is as it was.
+    /// Appends the answer of a write without a reader, and answers what it comes to. If memory is
+    /// refused, the log is as it was.
     fn push_broken(&self, log: &mut Log) -> Result<Planned, NoMemory>
         ensures ok { IfOk result (λ planned.
             (log.new ≡ log.old ++ SetPart self.now.pid
@@ -256,7 +256,7 @@ impl Actor<'_> {
         })
     }
 
-    /// The signal that tells the process that no reader is left.
+    /// The signal for a process that writes without a reader.
     fn broken_pipe(&self) -> Sending
         ensures { result ≡ broken_sending self.now }
     {
@@ -268,7 +268,8 @@ impl Actor<'_> {
         }
     }
 
-    /// Appends that bytes of the memory go to a pipe. After want of memory the log is as it was.
+    /// Appends the move of bytes of the memory to a pipe. If memory is refused, the log is as it
+    /// was.
     fn push_put(
         &self,
         alloc: Global,
@@ -286,7 +287,7 @@ impl Actor<'_> {
         log.push(Change::Pipe(pipe, PipePart::Back(0, boxed)))
     }
 
-    /// So many bytes of the memory, in a place of their own.
+    /// This many bytes of the memory, in a list of their own.
     fn boxed_bytes(&self, alloc: Global, address: i64, n: usize) -> Result<BoxedPipe, NoMemory>
         requires good { is_good is_mapped (me_of self.now).memory address n ≡ true }
         requires few { n ≤ 512 }
@@ -299,8 +300,8 @@ impl Actor<'_> {
         Ok(boxed)
     }
 
-    /// Appends so many bytes of the memory, from an address on, to a pipe. They must be in 0 to 1,023,
-    /// and fit.
+    /// Appends this many bytes of the memory, from an address on, to a pipe. They must be in 0 to
+    /// 1,023, and fit.
     fn put_into(&self, start: usize, n: usize, boxed: &mut BoxedPipe)
         requires inside { start + n ≤ 1024 }
         requires fits { length boxed.old + n ≤ 512 }
@@ -350,7 +351,7 @@ impl Actor<'_> {
         self.putting(desc, n)
     }
 
-    /// What a write of so many bytes to the description comes to that has a reader.
+    /// What a write of this many bytes to a description with a reader comes to.
     fn putting(&self, desc: Desc, n: usize) -> Result<Writing, Errno>
         requires { n ≤ 512 }
         ensures { IsPutting self.now desc n result }

@@ -27,16 +27,16 @@ use tx_proc::{BoxedProc, Part, Register};
 #[derive(Clone, Copy)]
 pub(crate) struct Child {
     pid: Pid,
-    /// Nothing while it runs; else the status that it ended with.
+    /// None while it runs; else the status that it ended with.
     pub(crate) status: Option<u16>,
 }
 
 impl Actor<'_> {
-    /// Makes a child of this number, a copy of the process but for its pending signals, and answers
+    /// Makes a child of this number, a copy of the process without its pending signals, and answers
     /// the number; the child is answered 0 (POSIX.1-2017, XSH, fork()).
     ///
-    /// Refuses by BadNumber where the number is not 1 to the width, by NumberTaken where a process
-    /// has it, and by NoMemory. A refusal may leave more in the log.
+    /// Refuses with BadNumber where the number is not 1 to the width, with NumberTaken where a
+    /// process has it, and with NoMemory. A refusal may leave more in the log.
     pub(crate) fn plan_fork(
         &self,
         alloc: Global,
@@ -70,7 +70,7 @@ impl Actor<'_> {
         child.0 == 0 || child.0 as usize > self.parts.procs.width()
     }
 
-    /// Plans to put a child at a free number, to count its names and to answer its number.
+    /// Plans a child at a free number, the count of its names, and its number as the answer.
     fn plan_child(&self, alloc: Global, child: Pid, log: &mut Log) -> Result<Planned, NoMemory>
         requires actor { IsActor self.now }
         requires number { IsPid (sizes_of self.now.parts.now) child.0 }
@@ -95,7 +95,8 @@ impl Actor<'_> {
 
     /// Ends the process with this status modulo 256 (POSIX.1-2017, XSH, _exit()).
     ///
-    /// Answers NotPermitted in process 1. Refuses by NoMemory alone, which may leave more in the log.
+    /// Answers NotPermitted in process 1. Refuses only with NoMemory, which may leave more in the
+    /// log.
     pub(crate) fn plan_exit(
         &self,
         alloc: Global,
@@ -119,8 +120,9 @@ impl Actor<'_> {
     /// Answers the number of an ended child, which is removed, and keeps its status in slot 0; 0
     /// for one that runs, with `nohang` (POSIX.1-2017, XSH, waitpid()).
     ///
-    /// Answers NoChild where the number is none of a child of the process. Refuses by Wait where
-    /// the child runs, without `nohang`, and by NoMemory. A refusal may leave more in the log.
+    /// Answers NoChild where the number is not that of a child of the process. Refuses with Wait
+    /// where the child runs, without `nohang`, and with NoMemory. A refusal may leave more in the
+    /// log.
     pub(crate) fn plan_waitpid(
         &self,
         number: i64,
@@ -145,7 +147,7 @@ impl Actor<'_> {
         }
     }
 
-    /// The process number that a program computed; nothing where it is not 1 to the width.
+    /// The process number that a program computed; none if it is not 1 to the width.
     pub fn numbered(&self, number: i64) -> Option<Pid>
         requires { length self.now.parts.now.procs ≤ 256 }
         ensures { option_map (λ pid. pid.0) result
@@ -158,7 +160,7 @@ impl Actor<'_> {
         Some(Pid(number as u16))
     }
 
-    /// The child of a number that a program computed; nothing where the number is none of a child.
+    /// The child of a number that a program computed; none if the number is not a child's.
     pub(crate) fn child(&self, number: i64) -> Option<Child>
         requires { length self.now.parts.now.procs ≤ 256 }
         ensures { result ≡ child_at self.now.pid.0 self.now.parts.now.procs
@@ -175,8 +177,8 @@ impl Actor<'_> {
         })
     }
 
-    /// Plans to remove a child that has ended with this status, to keep the status in slot 0 and to
-    /// answer the child's number.
+    /// Plans the removal of a child that has ended with this status, the status in slot 0, and the
+    /// child's number as the answer.
     fn plan_removal(&self, child: Pid, status: u16, log: &mut Log) -> Result<Planned, NoMemory>
         requires actor { IsActor self.now }
         requires ended { IsEndedChild self.now child.0 status }
@@ -199,7 +201,7 @@ impl Actor<'_> {
     }
 }
 
-/// The status that an exit with this one leaves: its remainder by 256, which is not negative.
+/// The status that an exit with this one leaves: its remainder by 256, not negative.
 fn exit_status(status: i64) -> u16
     ensures { result ≡ exit_status status }
 {

@@ -1,4 +1,4 @@
--- What the footprint of a step has to do with its event, and with who is in the way of the step. Own rules.
+-- How the footprint of a step depends on its event, and shows who is in the way of the step. Own rules.
 use Rattle.std.specs.Prelude.{◌≡◌, ℕ, Bool, true, false, None, if◌then◌else◌}
 use Rattle.tx_base.specs.declared.steps.Step.{Step}
 use Rattle.tx_base.specs.declared.steps.Step.TheVariants.{Call as Calls, Deliver, KernelAbort}
@@ -54,11 +54,11 @@ abbrev pub StarterInWayIsOfStep : Type 0
 StarterInWayIsOfStep = (view : View) (step : Step) → IsSound view → is_asked step ≡ true → is_running ((present view).procs (process_of step)) ≡ true →
     starter_in_way view (event_on view step) ≡ least (is_in_way view step) view.table.width
 
--- where none is named, nobody is in the way
+-- if none is named, nobody is in the way
 abbrev pub NoStarterIsClear : Type 0
 NoStarterIsClear = (view : View) (event : Event) → IsSound view → starter_in_way view event ≡ None → IsClear view event
 
--- where nobody is in the way, whoever reserved what the event names has its process as a member
+-- if nobody is in the way, the process is a member of each transaction that reserved what the event names
 abbrev pub ClearIsOfMembers : Type 0
 ClearIsOfMembers = (view : View) (event : Event) (object : Object) (starter : ℕ) → IsSound view → IsClear view event →
     has_object object (event_footprint view.table event (present view)) ≡ true → view.reserved starter object ≡ true → is_member_of view.table starter (actor event) ≡ true

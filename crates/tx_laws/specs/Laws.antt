@@ -20,7 +20,7 @@ use Rattle.tx_laws.specs.WellFormed.{HasGoodNumbers, IsHeldSending, IsSendable, 
 abbrev pub PrefixesAgree : Type 0
 PrefixesAgree = (start : State) (later earlier : List Accepted) → Lawful start (later ++ earlier) → Agreement start earlier
 
--- the survivors, told by places, are the survivors
+-- the survivors by places are the survivors
 abbrev pub SurvivorsAreByPlace : Type 0
 SurvivorsAreByPlace = (start : State) (left_out : Starters) (history : List Accepted) →
     survivors start left_out history ≡ survivors_by_place start left_out [] history
@@ -42,7 +42,7 @@ StartIsSound = (start : State) → IsSound (view start [])
 abbrev pub NextIsSound : Type 0
 NextIsSound = (view : View) (step : Step) → IsSound view → IsAccepted (answer view step) → IsSound (next view step)
 
--- the event of an accepted step goes with what the step is to the transactions, and nobody is in its way
+-- the event of an accepted step fits the role of the step, and nobody is in its way
 abbrev pub AcceptedStepsFit : Type 0
 AcceptedStepsFit = (view : View) (step : Step) → IsSound view → IsAccepted (answer view step) →
     Passes (role_on view step) (event_on view step) view × Fits (role_on view step) (event_on view step) (process_of step) view
@@ -59,21 +59,21 @@ EventKeepsForm = (event : Event) (state : State) → IsWellFormed state → HasG
 abbrev pub PostKeepsForm : Type 0
 PostKeepsForm = (sending : Sending) (state : State) → IsSendable sending → IsWellFormed state → IsWellFormed (after_post sending state)
 
--- a well-formed state is so too where other known signals are held
+-- a well-formed state stays so with other known signals held
 abbrev pub HeldKeepsForm : Type 0
 HeldKeepsForm = (held : ℕ → List Sending) (state : State) →
     ((starter : ℕ) → All (IsHeldSending state.width) (held starter)) → IsWellFormed state → IsWellFormed (record state { held = held })
 
--- in each role that goes with the event, the next view of a sound one is sound
+-- in each role that fits the event, the next view of a sound one is sound
 abbrev pub RolesKeepSound : Type 0
 RolesKeepSound = (role : Role) (event : Event) (process : ℕ) (view : View) →
     IsSound view → Passes role event view → Fits role event process view → IsSound (next_by role event process view)
 
--- where every state of a sound view is well formed, so is every state of the next view by an accepted step
+-- if every state of a sound view is well formed, so is every state of the next view by an accepted step
 abbrev pub NextIsWellFormed : Type 0
 NextIsWellFormed = (view : View) (step : Step) → IsSound view → IsAccepted (answer view step) →
     ((left_out : Starters) → IsWellFormed (view.without left_out)) → (left_out : Starters) → IsWellFormed ((next view step).without left_out)
 
--- what a schedule of steps leaves after a lawful history is a lawful history
+-- a schedule of steps after a lawful history leaves a lawful history
 abbrev pub SchedulesAreLawful : Type 0
 SchedulesAreLawful = (start : State) (history : List Accepted) (steps : List Step) → Lawful start history → Lawful start (history_of start history steps)

@@ -35,20 +35,19 @@ abbrev pub OtherAbortAnswers202 : Type 0
 OtherAbortAnswers202 = (view : View) (starter : Pid) →
     is_live view.table starter.0 ≡ true → is_doomed view starter.0 ≡ false → answer view (KernelAbort starter) ≡ Aborted 202
 
--- no step inside a transaction changes whether that is doomed
+-- no step inside a transaction changes whether it is doomed
 abbrev pub MembersDoomNothing : Type 0
 MembersDoomNothing = (view : View) (step : Step) (starter : ℕ) (progress : Progress) →
     role_on view step ≡ Within starter progress → is_doomed (next view step) starter ≡ is_doomed view starter
 
--- SIGKILL that a process outside of all transactions sends by kill to a live starter, and that is let through, dooms
--- the transaction
+-- a permitted SIGKILL that a process outside all transactions sends by kill to a live starter dooms the transaction
 abbrev pub KillDooms : Type 0
 KillDooms = (view : View) (pid : Pid) (starter : ℕ) →
     IsSound view → view.table.marks pid.0 ≡ None → is_live view.table starter ≡ true → starter ≢ 1 →
     answer view (Calls pid (Kill (pos starter) (pos kill_signo))) ≡ Done (pos 0) →
     is_doomed (next view (Calls pid (Kill (pos starter) (pos kill_signo)))) starter ≡ true
 
--- the same of SIGKILL that is sent by sigqueue
+-- the same for a SIGKILL that is sent by sigqueue
 abbrev pub SigqueueDooms : Type 0
 SigqueueDooms = (view : View) (pid : Pid) (starter : ℕ) (value : ℤ) →
     IsSound view → view.table.marks pid.0 ≡ None → is_live view.table starter ≡ true → starter ≢ 1 →

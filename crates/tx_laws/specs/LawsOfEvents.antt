@@ -27,7 +27,7 @@ abbrev pub ReplyIsLocal : Type 0
 ReplyIsLocal = (event : Event) (one other : State) →
     AgreeOn (objects event one ++ processes_of (effect event one).sends) one other → reply_of event one ≡ reply_of event other
 
--- an event changes nothing but its objects and the targets of its sends
+-- an event changes only its objects and the targets of its sends
 abbrev pub ElsewhereIsSame : Type 0
 ElsewhereIsSame = (event : Event) (state : State) (object : Object) →
     has_object object (objects event state ++ processes_of (effect event state).sends) ≡ false → AgreeAt (after event state) state object
@@ -37,17 +37,17 @@ abbrev pub OtherObjectsStay : Type 0
 OtherObjectsStay = (event : Event) (state : State) (object : Object) →
     has_object object (objects event state ++ processes_of (effect event state).sends) ≡ false → EqualAt (after event state) state object
 
--- the writes of an event leave, in any state, everything that is no object of it as it was
+-- in any state, the writes of an event leave everything that is not its object as it was
 abbrev pub WritesStayInObjects : Type 0
 WritesStayInObjects = (event : Event) (state other : State) (object : Object) →
     has_object object (objects event state) ≡ false → EqualAt (before_sends (effect event state) other) other object
 
--- at what is no object of it an event does nothing but post its sends, in whatever state it is made
+-- in any state, at what is not its object an event only posts its sends
 abbrev pub OthersGetSendsAlone : Type 0
 OthersGetSendsAlone = (event : Event) (state other : State) (answers : List ℤ) (object : Object) →
     has_object object (objects event state) ≡ false → EqualAt (after_effect (effect event state) answers other) (after_posts (effect event state).sends other) object
 
--- what a transaction holds is an object of those events alone that are made inside of it, or commit it
+-- what a transaction holds is an object only of events that are made inside it or commit it
 abbrev pub HoldsForItsOwn : Type 0
 HoldsForItsOwn = (event : Event) (state : State) (starter : ℕ) → has_object (Held starter) (objects event state) ≡ true → HoldsFor starter event
 

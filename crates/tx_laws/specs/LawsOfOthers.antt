@@ -12,17 +12,17 @@ use Rattle.tx_model.specs.Answer.{Lawful, AgreesWithout}
 use Rattle.tx_laws.specs.Fits.{Fits, Passes, IsQuiet}
 use Rattle.tx_laws.specs.Sound.{IsSound}
 
--- whichever transactions are left out of a lawful history, each step that survives has the reply of its event
+-- whichever transactions are left out of a lawful history, each surviving step has the reply of its event
 abbrev pub HistoriesAgree : Type 0
 HistoriesAgree = (start : State) (history : List Accepted) → Lawful start history → (left_out : Starters) → AgreesWithout start left_out history
 
--- the event of an entry goes with what the entry is to the transactions, and nobody is in its way
+-- the event of an entry fits the role of the entry, and nobody is in its way
 abbrev pub EntriesFit : Type 0
 EntriesFit = (start : State) (last : Accepted) (earlier : List Accepted) → Lawful start (last ∷ earlier) →
     Passes (role_in start last earlier) (event_of start last earlier) (view start earlier)
     × Fits (role_in start last earlier) (event_of start last earlier) (process_of last.step) (view start earlier)
 
--- where transactions of others are left out, the state is the same at the objects of an event that nobody is in the way of
+-- with transactions of others left out, the state is the same at the objects of an event if nobody is in its way
 abbrev pub ObjectsOfOthersApart : Type 0
 ObjectsOfOthersApart = (view : View) (event : Event) (left_out : Starters) → IsSound view → IsClear view event → IsQuiet view event left_out →
     AgreeOn (objects event (present view)) (present view) (view.without left_out)

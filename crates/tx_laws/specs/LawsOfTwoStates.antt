@@ -14,7 +14,7 @@ use Rattle.tx_laws.specs.Sound.{IsSound}
 use Rattle.tx_laws.specs.TwoStates.{TwoStates, states_view, states_next}
 use Rattle.tx_laws.specs.TwoAnswers.{sends_differ, states_in_way}
 
--- in each role that goes with the event, the next two states have the next view
+-- in each role that fits the event, the next two states have the next view
 abbrev pub StatesFollowRole : Type 0
 StatesFollowRole = (role : Role) (event : Event) (process : ℕ) (kernel : TwoStates) →
     IsSound (states_view kernel) → Passes role event (states_view kernel) → Fits role event process (states_view kernel) →
@@ -43,7 +43,7 @@ SameStatesSameView = (one other : TwoStates) →
 abbrev pub PresentIsNow : Type 0
 PresentIsNow = (kernel : TwoStates) → present (states_view kernel) ≡ kernel.now
 
--- a live transaction is doomed if SIGKILL is pending at its starter as that is kept
+-- a live transaction is doomed if SIGKILL is pending in what is kept of its starter
 abbrev pub DoomIsKept : Type 0
 DoomIsKept = (kernel : TwoStates) (starter : ℕ) → IsSound (states_view kernel) → is_live kernel.table starter ≡ true →
     is_doomed (states_view kernel) starter ≡ has_pending kill_signo (kernel.kept.procs starter)
@@ -54,12 +54,12 @@ abbrev pub TwoAnswersAreOfStarter : Type 0
 TwoAnswersAreOfStarter = (kernel : TwoStates) (event : Event) (starter : ℕ) → IsSound (states_view kernel) → is_live kernel.table starter ≡ true →
     has_object (Proc starter) (objects event kernel.now) ≡ false → has_two_answers (states_view kernel) event starter ≡ sends_differ kernel event starter
 
--- who is in the way of an event, the two states, the owners and the table tell
+-- who is in the way of an event follows from the two states, the owners and the table
 abbrev pub InWayIsOfStates : Type 0
 InWayIsOfStates = (kernel : TwoStates) (event : Event) (starter : ℕ) → IsSound (states_view kernel) →
     in_way (states_view kernel) event starter ≡ states_in_way kernel event starter
 
--- a busy step names the least of those that these tell to be in the way
+-- a busy step names the least of those that are so in its way
 abbrev pub StarterInWayIsOfStates : Type 0
 StarterInWayIsOfStates = (kernel : TwoStates) (event : Event) → IsSound (states_view kernel) →
     starter_in_way (states_view kernel) event ≡ least (states_in_way kernel event) kernel.table.width

@@ -1,4 +1,4 @@
--- The survivors again, by places: which steps are left out, told by what follows them. Own rules.
+-- The survivors again, by places: which steps are left out, by what follows them. Own rules.
 use Rattle.std.specs.Prelude.{ℕ, Bool, true, false, not, List, [], ◌∷◌, if◌then◌else◌, ◌==◌}
 use Rattle.tx_base.specs.declared.steps.Accepted.{Accepted}
 use Rattle.tx_model.specs.State.{State}
@@ -27,7 +27,7 @@ leaves_out Committed x = false
 leaves_out Aborted x = true
 leaves_out Live x = x
 
--- whether the step at a place is left out, by what follows it. Where a transaction is aborted, its starter's note stands
+-- whether the step at a place is left out, by what follows it. If a transaction is aborted, its starter's note stays
 abbrev pub is_left_out : Starters → List Role → Role → Bool
 is_left_out X later Outside = false
 is_left_out X later (Within s progress) = leaves_out (fate s later) (X s)

@@ -1,5 +1,4 @@
--- What is so of the view of every history: what stands at an object without some transactions depends
--- on those alone that reserved it. Own rules.
+-- What holds for the view of every history: what an object has without some transactions depends only on those that reserved it. Own rules.
 use Rattle.std.specs.Prelude.{◌≡◌, ℕ, true}
 use Rattle.tx_model.specs.State.{Object, Proc, Held, is_between}
 use Rattle.tx_model.specs.StateLaws.{AgreeAt}
@@ -9,12 +8,12 @@ use Rattle.tx_model.specs.View.{View}
 use Rattle.tx_model.specs.Answer.{is_running}
 
 pub record IsSound (V : View) : Type 0 where
-  -- the states without X and without Y agree at an object where X and Y have the same of those that reserved it
+  -- the states without X and without Y agree at an object if X and Y have the same of those that reserved it
   pub coherent : (X Y : Starters) (o : Object) → ((s : ℕ) → V.reserved s o ≡ true → X s ≡ Y s) → AgreeAt (V.without X) (V.without Y) o
-  -- a live transaction alone reserved anything, and one at most reserved an object
+  -- only live transactions have reserved anything, and at most one an object
   pub owned_live : (s : ℕ) (o : Object) → V.reserved s o ≡ true → is_live V.table s ≡ true
   pub single : (s t : ℕ) (o : Object) → V.reserved s o ≡ true → V.reserved t o ≡ true → s ≡ t
-  -- it reserved its members, and what it holds; and nothing that another holds
+  -- it has reserved its members and what it holds, and nothing that another holds
   pub own_procs : (s p : ℕ) → is_member_of V.table s p ≡ true → V.reserved s (Proc p) ≡ true
   pub own_held : (s : ℕ) → is_live V.table s ≡ true → V.reserved s (Held s) ≡ true
   pub held_own : (s t : ℕ) → V.reserved s (Held t) ≡ true → s ≡ t

@@ -1,4 +1,4 @@
--- Who is in the way of an event, told by the two states of a kernel. Own rules.
+-- Who is in the way of an event, by the two states of a kernel. Own rules.
 use Rattle.std.specs.Prelude.{ℕ, Bool, true, false, List, [], ◌∷◌, Option, if◌then◌else◌, ◌==◌}
 use Rattle.std.specs.Ordering.{int_eq}
 use Rattle.tx_model.specs.State.{Process, Sending}
@@ -9,7 +9,7 @@ use Rattle.tx_model.specs.History.{event_footprint}
 use Rattle.tx_model.specs.View.{some_object}
 use Rattle.tx_laws.specs.TwoStates.{TwoStates, is_owner}
 
--- whether a send to process s is answered otherwise by the one process than by the other, one send after another
+-- whether a send to process s is answered differently by the two processes, one send after another
 unfoldable pub differs_by : ℕ → List Sending → Option Process → Option Process → Bool
 differs_by s [] one other = false
 differs_by s (m ∷ ms) one other =
@@ -21,7 +21,7 @@ differs_by s (m ∷ ms) one other =
 abbrev pub owns_named : TwoStates → Event → ℕ → Bool
 owns_named c ev s = some_object (event_footprint c.table ev c.now) (λ o. is_owner s (c.owner o))
 
--- whether a send of the event to s is answered otherwise by its process as it is kept than as it is now
+-- whether a send of the event to s is answered differently by its process as kept and as it is now
 abbrev pub sends_differ : TwoStates → Event → ℕ → Bool
 sends_differ c ev s = differs_by s (effect ev c.now).sends (c.now.procs s) (c.kept.procs s)
 

@@ -1,5 +1,5 @@
--- A kernel with two states, and an owner for each object: each object as it is, and what is kept of it, as it would be
--- without its owner's transaction. Own rules.
+-- A kernel with two states, and an owner for each object: each object as it is, and as it would be without its owner's transaction. Own
+-- rules.
 use Rattle.std.specs.Prelude.{ℕ, Bool, false, List, Option, Some, None, is_none, if◌then◌else◌, ◌==◌}
 use Rattle.tx_model.specs.State.{State, Object, Proc, Desc, Pipe, Held, has_object}
 use Rattle.tx_model.specs.Effects.{send_answers, after_effect}
@@ -47,7 +47,7 @@ freed s (Some t) = if t == s then None else Some t
 abbrev pub made : Event → State → State → State
 made ev S R = after_effect (effect ev S) (send_answers (effect ev S) S) R
 
--- every object of the list is the starter's from now on, and is kept as it is now if nobody owned it
+-- from now on the starter owns every object of the list, kept as it is now if nobody owned it
 abbrev pub with_reserved : ℕ → List Object → Event → Table → TwoStates → TwoStates
 with_reserved s F ev table c = record {
   now = made ev c.now c.now;
@@ -60,7 +60,7 @@ with_reserved s F ev table c = record {
 abbrev pub on_both : Event → State → TwoStates → (Object → Option ℕ) → Table → TwoStates
 on_both ev S c owner table = record { now = made ev S S; kept = made ev S c.kept; owner = owner; table = table }
 
--- the kernel after a step of process p that is so to the transactions
+-- the kernel after a step of process p in this role
 unfoldable pub states_next : Role → Event → ℕ → TwoStates → TwoStates
 states_next Outside ev p c = on_both ev c.now c c.owner (table_after Outside p c.table)
 states_next (Within s progress) ev p c = with_reserved s (objects_reserved progress s (event_footprint c.table ev c.now)) ev (table_after (Within s progress) p c.table) c

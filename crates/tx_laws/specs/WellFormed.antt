@@ -1,4 +1,4 @@
--- What every state is that a history leads to. Own rules.
+-- How every state is that a history leads to. Own rules.
 use Rattle.std.specs.Prelude.{◌≡◌, ◌≢◌, ◌⊎◌, ℕ, ◌<◌, ◌≤◌, true, false, List, [], ◌∷◌, length, All, Option, Some, None, is_some}
 use Rattle.tx_base.specs.Signals.{bits_of}
 use Rattle.tx_base.specs.declared.limits.TheConstants.{PAGE_BYTES, PIPE_BYTES, FRAMES, QUEUED, LAST_ID, LAST_POINT, DESCRIPTIONS, DESCRIPTORS, PAGES, PIPES, SIGNALS, SLOTS}
@@ -76,8 +76,8 @@ pub record IsHeldSending (width : ℕ) (m : Sending) : Type 0 where
   pub known : is_known m.signo ≡ true
   pub target : is_between width m.target ≡ true
 
--- what a process has is within the limits of its numbers: standard signals alone are in the set of those pending,
--- realtime ones in the queue; and SIGKILL is neither caught nor ignored
+-- what a process has is within its limits: only standard signals are in the set of those pending, only realtime ones in the queue; SIGKILL
+-- is neither caught nor ignored
 pub record HasLimits (q : Process) : Type 0 where
   pub point : q.registers.point ≤ LAST_POINT
   pub pages : All IsWholePage q.memory
@@ -89,7 +89,7 @@ pub record HasLimits (q : Process) : Type 0 where
   pub queued : All IsRealtimeEntry q.queued
   pub frames : All HasFrameLimits q.frames
 
--- what is so of the process of a number: its parent is another one, that runs; that of process 1 is none
+-- what holds for the process of a number: its parent is another one, that runs; process 1 has none
 pub record IsPlaced (S : State) (n : ℕ) (q : Process) : Type 0 where
   pub number : is_between S.width n ≡ true
   pub parent : n ≢ 1 → is_running (S.procs q.parent) ≡ true
@@ -103,10 +103,9 @@ pub record IsFirst (q : Process) : Type 0 where
   pub pending : q.pending ≡ 0
   pub queued : length q.queued ≡ 0
 
--- process 1 is there; each process has its place; a description is there exactly while a descriptor names it, and a
--- pipe exactly while a description does; the numbers (descriptions 0 to 63, pipes 0 to 31) and sizes are within their
--- limits, and so is what each process has; and the signals that transactions hold are known ones, to process numbers
--- that there are
+-- process 1 exists; each process has its place; a description exists exactly while a descriptor names it, and a pipe exactly while a
+-- description does; the numbers (descriptions 0 to 63, pipes 0 to 31) and sizes are within their limits, and so is what each process has;
+-- the signals that transactions hold are known ones, to process numbers in range
 pub record IsWellFormed (S : State) : Type 0 where
   pub first : (q : Process) × (S.procs 1 ≡ Some q) × IsFirst q
   pub placed : (n : ℕ) (q : Process) → S.procs n ≡ Some q → IsPlaced S n q

@@ -1,4 +1,4 @@
--- What is so of the live transactions of every history, by their table and the state. Own rules.
+-- What holds for the live transactions of every history, by their table and the state. Own rules.
 use Rattle.std.specs.Prelude.{◌≡◌, ◌≢◌, ◌⊎◌, ℕ, ◌+◌, ◌-◌, ◌≤◌, true, false, List, [], ◌∷◌, Option, Some, None, is_some}
 use Rattle.tx_base.specs.declared.limits.TheConstants.{HELD_SENDS}
 use Rattle.tx_model.specs.State.{Process, Sending, State}
@@ -13,19 +13,19 @@ unfoldable pub sent_by_kernel : List Sending → ℕ
 sent_by_kernel [] = 0
 sent_by_kernel (m ∷ ms) = 1 - sender_count m.from + sent_by_kernel ms
 
--- the parent of the process, if it is there, is process 1 or a member of the transaction of s
+-- the parent of the process, if there is one, is process 1 or a member of the transaction of s
 abbrev pub HasParentInside : Table → ℕ → Option Process → Type 0
 HasParentInside t s None = Unit {0}
 HasParentInside t s (Some q) = (q.parent ≡ 1) ⊎ (is_member_of t s q.parent ≡ true)
 
--- the parent of the process, if it is there, is no member of the transaction of s
+-- the parent of the process, if there is one, is no member of the transaction of s
 abbrev pub HasParentOutside : Table → ℕ → Option Process → Type 0
 HasParentOutside t s None = Unit {0}
 HasParentOutside t s (Some q) = is_member_of t s q.parent ≡ false
 
--- what is so of the live transaction of s: its starter is there, the members whose part has not ended run, only the
--- starter's parent is outside, and it holds no more sends of its members than it may; the kernel's own send is that
--- to the starter's parent, once the starter has ended
+-- what holds for the live transaction of s: its starter exists, the members whose part has not ended run, only the starter's parent is
+-- outside, and it holds no more sends of its members than it may; the kernel's own send goes to the starter's parent, once the starter has
+-- ended
 pub record IsTransaction (t : Table) (S : State) (s : ℕ) : Type 0 where
   pub starter : is_some (S.procs s) ≡ true
   pub open_parts : (p : ℕ) → is_open_of s (t.marks p) ≡ true → is_running (S.procs p) ≡ true
@@ -45,8 +45,8 @@ pub record IsWellFormedWith (t : Table) (S : State) : Type 0 where
 abbrev pub HoldsNothing : State → Type 0
 HoldsNothing S = (s : ℕ) → S.held s ≡ []
 
--- what is so of the view of every history: its live transactions are so in the state, and without one of them nothing
--- is held by its number
+-- what holds for the view of every history: its live transactions are so in the state, and without one of them nothing is held by its
+-- number
 pub record IsWellFormedView (V : View) : Type 0 where
   pub formed : IsWellFormedWith V.table (present V)
   pub left : (s : ℕ) → (V.without (just s)).held s ≡ []

@@ -1,43 +1,23 @@
 #![tactic(auto)]
-//! The laws over the definitions of the kernel, as the contracts of functions that do nothing. What
-//! crates above take as a premise has a name, in `specs/Laws.antt` and the files beside it: whoever
-//! wants a law calls its function.
+//! The laws over the definitions of the kernel, as contracts of functions that do nothing;
+//! `docs/PROVED.md` has each in words. A law that crates above use is a definition of
+//! `specs/Laws.antt` or of a file beside it.
 //!
-//! - *erasure*: in every prefix of a lawful history, from any first state, each surviving step's
-//!   reply is that of its event in the plain run of the survivors;
-//! - *next view*: the view of a lawful history is `next` of the view of the entries before its
-//!   last; and what the view has at an object depends on those transactions alone that reserved it;
-//! - *step by step*: the first view is sound, an accepted step makes of a sound view a sound one
-//!   and of well-formed states well-formed ones, its event goes with what it is to the
-//!   transactions, and a schedule's accepted steps are a lawful history;
-//! - *two states*: a kernel that has the state now, the kept one, in which each object is as it
-//!   would be without its owner's transaction, and the owners, has the next view after its step,
-//!   whatever the step is to the transactions;
-//! - *answers of states*: doom, the two answers at a starter, and who is in the way, of what such a
-//!   kernel has;
-//! - *locality*: states that agree at an event's objects, families included, give the same effect,
-//!   objects and reply; nothing changes but at its objects, the targets of its sends, and the
-//!   children of process 1;
-//! - *inside*: what is held is held for the transaction that the event is made in, and members post
-//!   to members;
-//! - *footprints*: the footprint of a step, row by row, is what its event names and posts to, and
-//!   tells who is in the step's way;
-//! - *survivors by places*: the survivors are the events of the steps that no later abort takes
-//!   back;
-//! - *commuting*: two events commute where no object is named by both;
-//! - *well formed*, and *well formed with the table*: every event keeps well-formed states, and a
-//!   lawful history has no others; its live transactions have their starters, their running
-//!   members, and no more held sends than they may, so what a commit lists fits its reply;
-//! - *doom*: of a doomed transaction only the kernel's abort is accepted; a SIGKILL from outside of
-//!   all transactions dooms a starter's, nothing takes that back, and no step inside one dooms it.
+//! # What they need
 //!
-//! The laws stand over the definitions alone. They go by the role of a step (outside, within,
-//! commits, aborts) and by objects, not by calls. So a machine owes one thing: that its view after
-//! a step is `next` of its view before. And a rule of a call owes the laws its locality, and that
-//! inside a transaction it posts to members alone and holds with its own; that is proved of each,
-//! in files of `proofs/` by groups (`Of..`), and of well-formed states likewise (`KeepsForm..`),
-//! mostly by the lines of its page. The calls that concern their process alone have one table for
-//! all of this (`OwnPages`), and a law that says what they come to (*own calls*).
+//! The laws go by a step's role (outside, within, commits, aborts) and by objects, not by calls. So
+//! a machine must show one thing: its view after a step is `next` of its view before. A call's rule
+//! must show its locality, and that inside a transaction it posts only to members and holds only
+//! with its own. `proofs/` shows that of each call, by groups (`Of..`), and of well-formed states
+//! likewise (`KeepsForm..`), mostly by the lines of its page. Calls that concern only their process
+//! share one table (`OwnPages`) and the law *own calls*.
+//!
+//! # Which there are
+//!
+//! - of histories: *erasure*, *survivors by places*, *step by step*, *next view*
+//! - of machines that keep two states and owners: *two states*, *answers of states*
+//! - of effects: *locality*, *commuting*, *inside*, *footprints*
+//! - of states: *well formed*, *well formed with the table*, *doom*
 
 ghost use Rattle.std.specs.Prelude.{◌≤◌, ℕ, List, ◌≡◌, length};
 ghost use Rattle.tx_base.specs.declared.steps.Accepted.{Accepted};
@@ -69,15 +49,15 @@ pub fn erasure()
     ensures { PrefixesAgree }
 {}
 
-/// The same of the whole history, whichever of its live transactions are left out.
+/// The same for the whole history, whichever of its live transactions are left out.
 pub fn agreement()
     ensures { HistoriesAgree }
 {}
 
-/// The event of an entry of a lawful history goes with what the entry is to the transactions, and nobody
-/// is in its way. Such an event finds its objects as they are, and its posts are answered alike, where
-/// transactions of others are left out. Two states that agree at an object agree there after an event
-/// that does the same in both, and whose posts both answer alike.
+/// The event of an entry of a lawful history fits the role of the entry, and nobody is in its way.
+/// With transactions of others left out, such an event finds its objects as they are, and its posts
+/// are answered alike. Two states that agree at an object agree there after an event that does the
+/// same in both, and whose posts both answer alike.
 pub fn entries()
     ensures fit { EntriesFit }
     ensures objects { ObjectsOfOthersApart }
@@ -85,24 +65,24 @@ pub fn entries()
     ensures keeps { SameEventKeeps }
 {}
 
-/// The survivors of a history are the events of the steps that no later abort takes back, and that
-/// are of no live transaction that is left out: which steps these are, each place tells by the
-/// roles of the steps that follow it.
+/// The survivors of a history are the events of the steps that no later abort takes back and that
+/// are of no live transaction that is left out. At each place the roles of the steps that follow
+/// decide.
 pub fn survivors_by_places()
     ensures { SurvivorsAreByPlace }
 {}
 
-/// The view of a lawful history is the next view of that of the entries before its last, and
-/// is sound: it depends at each object on those transactions alone that reserved it.
+/// The view of a lawful history is the next view of that of the entries before its last, and is
+/// sound: at each object it depends only on the transactions that reserved it.
 pub fn next_view()
     ensures history { LawfulViewIsNext }
     ensures sound { LawfulViewIsSound }
 {}
 
-/// Step by step: the view of the empty history is sound, and an accepted step makes of a sound view
-/// a sound one, and of well-formed states well-formed ones, whichever transactions are left out. Its
-/// event goes with what it is to the transactions, and in each role that an event goes with, sound views
-/// stay so. The accepted steps of a schedule that follows a lawful history make a lawful history with it.
+/// Step by step: the view of the empty history is sound, and an accepted step keeps views sound and
+/// states well formed, whichever transactions are left out. Its event fits its role, and in each
+/// role that an event fits, sound views stay so. The accepted steps of a schedule after a lawful
+/// history make a lawful history with it.
 pub fn step_by_step()
     ensures start { StartIsSound }
     ensures sound { NextIsSound }
@@ -112,10 +92,10 @@ pub fn step_by_step()
     ensures lawful { SchedulesAreLawful }
 {}
 
-/// A kernel with two states, the state now and the kept one, and with an owner for each object has the
-/// view of its history: at the start, where nobody owns anything; then in every role that a step may
-/// have, and so after each accepted step. Its view is told by its state now, by its owners and its
-/// table, and by what is kept of what is owned.
+/// A kernel with two states, the state now and the kept one, and with an owner for each object has
+/// the view of its history: at the start, where nobody owns anything; then in every role that a
+/// step may have, and so after each accepted step. Its view follows from its state now, its owners
+/// and its table, and what is kept of what is owned.
 pub fn two_states()
     ensures start { StartHasItsView }
     ensures same { SameStatesSameView }
@@ -124,10 +104,11 @@ pub fn two_states()
 {}
 
 /// The answers of a kernel with two states, by these. The present state is the one now; a live
-/// transaction is doomed if SIGKILL is pending at its starter as that is kept. The transaction of a live
-/// starter is in the way of an event of a process that is no member of it, if the starter owns something
-/// that the event names, or if one of the event's sends to the starter is answered otherwise by its
-/// process as it is kept than as it is now. A busy step names the least starter in its way.
+/// transaction is doomed if SIGKILL is pending in what is kept of its starter. The transaction of a
+/// live starter is in the way of an event of a process that is no member of it, if the starter owns
+/// something that the event names, or if one of the event's sends to the starter is answered
+/// differently by its process as kept and as it is now. A busy step names the least starter in its
+/// way.
 pub fn answers_of_states()
     ensures present { PresentIsNow }
     ensures doom { DoomIsKept }
@@ -136,11 +117,11 @@ pub fn answers_of_states()
     ensures starter_in_way { StarterInWayIsOfStates }
 {}
 
-/// Locality: what an event does, and which objects it has, is a function of its objects, their families
-/// included; who makes it is one of them. Its reply is a function of its objects and of the targets of
-/// its sends. It changes nothing but at these, and which processes are children of process 1: every other
-/// part stays. Its writes stay within its objects, and what is no object of it gets its sends and nothing
-/// else, in whatever state they are made.
+/// Locality: what an event does, and which objects it has, is a function of its objects, their
+/// families included; who makes it is one of them. Its reply is a function of its objects and of
+/// the targets of its sends. It changes only these, and which processes are children of process 1:
+/// every other part stays. In any state, its writes stay within its objects, and what is not its
+/// object gets only its sends.
 pub fn locality()
     ensures actor { ActorIsObject }
     ensures same { EffectIsLocal }
@@ -152,18 +133,18 @@ pub fn locality()
     ensures sends { OthersGetSendsAlone }
 {}
 
-/// Inside of a transaction and outside: what a transaction holds is read or written by those events alone
-/// that are made inside of it, or commit it; and what a member sends at once goes to members.
+/// Inside a transaction and outside: what a transaction holds is read or written only by events
+/// that are made inside it or commit it; and what a member sends at once goes to members.
 pub fn inside()
     ensures held { HoldsForItsOwn }
     ensures sends { MembersSendToMembers }
 {}
 
-/// Footprints: of a step of a process that runs, which is no abort, the footprint is what its
-/// event names, and the targets of what the event posts. What a transaction holds is left out. The
-/// starter that a busy call or delivery names is the least one that is in its way by its own footprint,
-/// an abort by a member included. Where none is named nobody is in the way, and then whoever reserved what
-/// the event names has its process as a member.
+/// Footprints: the footprint of a step of a process that runs, which is no abort, is what its event
+/// names, and the targets of what the event posts. What a transaction holds is left out. The
+/// starter that a busy call or delivery names is the least one that is in its way by its own
+/// footprint, an abort by a member included. If none is named, nobody is in the way, and then the
+/// process is a member of each transaction that reserved what the event names.
 pub fn footprints()
     ensures of_event { FootprintIsOfEvent }
     ensures starter_in_way { StarterInWayIsOfStep }
@@ -172,8 +153,8 @@ pub fn footprints()
     ensures members { ClearIsOfMembers }
 {}
 
-/// Two events commute where no object is named by both, the targets of their sends included: in
-/// either order they leave the same state, and each has the reply that it has alone.
+/// Two events commute if no object is named by both, the targets of their sends included: in either
+/// order they leave the same state, and each has the reply that it has alone.
 pub fn commuting()
     ensures state { StatesCommute }
     ensures reply { RepliesCommute }
@@ -181,10 +162,10 @@ pub fn commuting()
 
 /// Of a doomed transaction, whose starter would have SIGKILL pending after an abort, only the
 /// kernel's abort is accepted: each call of a member and each delivery to one is refused. That
-/// abort answers 203, and 202 where the transaction is not doomed. No step inside a transaction,
-/// the first included, changes whether it is doomed: what its members send dooms nothing. SIGKILL
-/// that is sent to the starter from outside of all transactions, and let through, dooms its transaction,
-/// unless that is process 1's; and a doomed transaction stays so until it ends.
+/// abort answers 203, or 202 if the transaction is not doomed. No step inside a transaction, the
+/// first included, changes whether it is doomed: what its members send dooms nothing. A permitted
+/// SIGKILL to the starter from outside all transactions dooms its transaction, unless that is
+/// process 1's; and a doomed transaction stays so until it ends.
 pub fn doom()
     ensures call { DoomedCallsAreRefused }
     ensures delivery { DoomedDeliveriesAreRefused }
@@ -196,13 +177,13 @@ pub fn doom()
     ensures stays { DoomStays }
 {}
 
-/// Endings, before there is a reply: the reply to a call other than an exit never says that its process
-/// ended, and that to a delivery says so exactly where the delivery now ends its process. What a call or
-/// a delivery is to the transactions, and its event, depend on the first reply by that alone. So a call
-/// other than an exit is told as one that ends nothing, and a delivery by whether it now ends its process.
-/// An exit ends its process, but for process 1, which gets an error for it and goes on. What an ending
-/// posts itself is answered by no error: it tells the parent, which is there. What a step shows on the
-/// console fits its reply, whatever the view.
+/// Endings, before there is a reply: the reply to a call other than an exit never says that its
+/// process ended, and that to a delivery says so exactly if the delivery now ends its process. The
+/// role of a call or a delivery, and its event, depend on the first reply only by that. So a call
+/// other than an exit is one that ends nothing, and for a delivery it only matters whether it now
+/// ends its process. An exit ends its process, except process 1, which gets an error and goes on.
+/// What an ending itself posts is not answered by an error: it notifies the parent, which exists.
+/// What a step shows on the console fits its reply, whatever the view.
 pub fn endings()
     ensures calls { OtherCallsSayNoEnd }
     ensures exits { ExitsSayEnd }
@@ -215,18 +196,18 @@ pub fn endings()
     ensures shown { ShowsFew }
 {}
 
-/// A call that concerns its process alone answers, and at most changes that process.
+/// A call that concerns only its process answers, and changes at most that process.
 pub fn own_calls()
     ensures { OwnCallsStayOwn }
 {}
 
 /// Well-formed states: process 1 runs, the parent of any other process runs too, what descriptors
-/// name is there and nothing else is, and numbers and sizes are within their limits, as are pages,
-/// ids, points, masks and actions, and the signals that are pending or held, and what is held goes to
-/// process numbers that there are. The booted state is well formed, every event with numbers in range
+/// name exists and nothing else does; numbers and sizes are within their limits, as are pages, ids,
+/// points, masks and actions, and the signals that are pending or held; and what is held goes to
+/// process numbers in range. The booted state is well formed, every event with numbers in range
 /// leaves a well-formed state so, and so each state of a lawful history is well formed, whichever
-/// transactions are left out. A signal that may be on its way leaves it so where it is posted, and so
-/// do others in place of those that are held.
+/// transactions are left out. Posting a signal that may be on its way keeps that, and so do other
+/// held signals in place of these.
 pub fn well_formed()
     ensures booted { BootedIsWellFormed }
     ensures kept { EventKeepsForm }
@@ -237,9 +218,9 @@ pub fn well_formed()
 {}
 
 /// The live transactions of every lawful history from a well-formed state that holds nothing, as
-/// the booted one does: the starter is there, members whose part has not ended run, the parent of
-/// each member but the starter is a member too or process 1, that of the starter is none, and what
-/// is held is within its limit. So what a commit lists fits its reply. The same step by step.
+/// the booted one does: the starter exists, members whose part has not ended run, the parent of
+/// each member but the starter is a member too or process 1, that of the starter is no member, and
+/// what is held is within its limit. So what a commit lists fits its reply. The same step by step.
 pub fn well_formed_table()
     ensures booted { (width count : ℕ) → HoldsNothing (boot_state width count) }
     ensures start { EmptyViewIsWellFormed }

@@ -38,7 +38,7 @@ led_txn parts txn = record txn {
   log = reverted parts txn.log;
 }
 
--- the parts where the starter stands so, with what was kept as pending there
+-- the parts with the starter at this point, with what was kept as pending there
 abbrev pub forth_parts : Parts → Txn → TheAnswer → Parts
 forth_parts parts txn stood = with_pending_at txn.starter.0 txn.kept.pending (parts_after parts (standing_at txn.starter stood))
 
@@ -49,7 +49,7 @@ forth_txn parts txn stood = record txn {
   log = exchanged (forth_parts parts txn stood) txn.log;
 }
 
--- the transaction was led back, and its starter has this answer from where it stood
+-- the transaction was led back, and its starter has this answer from its point
 pub record IsLedBack (before after : Parts) (ret : ℤ) (old new : Txn) (stood : TheAnswer) : Type 0 where
   pub parts : after ≡ parts_after (led_parts before old) (standing_at old.starter (answered_from stood ret))
   pub stands : stood ≡ standing (slot_at (led_parts before old).procs old.starter.0)

@@ -21,15 +21,15 @@ use Rattle.tx_txn.specs.declared.txn.Txn.{Txn}
 abbrev pub is_only : ℕ → Object → Bool
 is_only n o = if same_object o (Proc n) then is_small o else false
 
--- the process of this number is in no transaction, no other process is in one of it, and it owns and is nothing's own
+-- the process of this number is in no transaction and has started none, owns nothing and is owned by none
 pub record IsAlone (k : Content) (s : ℕ) : Type 0 where
   pub mark : slot_at k.marks s ≡ None
   pub members : (n : ℕ) → is_of s (slot_at k.marks n) ≡ false
   pub owner : owner_of k.owners (Proc s) ≡ None
   pub owns : (o : Object) → is_owner s (owner_of k.owners o) ≡ false
 
--- a transaction as it begins: it keeps what is pending at its starter, and the starter's ids; it holds and has nothing; and its log
--- has the plan of the answer 0
+-- a transaction as it begins: it keeps what is pending at its starter, and the starter's ids; it holds and owns nothing; its log has the
+-- plan of the answer 0
 pub record IsBegun (parts : Parts) (pid : Pid) (defers : Bool) (txn : Txn) : Type 0 where
   pub starter : txn.starter ≡ pid
   pub deferring : txn.defers ≡ defers
@@ -44,7 +44,7 @@ pub record IsBegun (parts : Parts) (pid : Pid) (defers : Bool) (txn : Txn) : Typ
   pub planned : Planned
   pub makes : Makes parts pid None (Note pid.0 (pos 0)) [] (exchanged parts txn.log) (applied parts txn.log) planned
 
--- a transaction that a process begins, of which nothing is made: it keeps what is pending at its starter, and the starter's ids
+-- a transaction that a process begins, before its first exchange: it keeps what is pending at its starter, and the starter's ids
 pub record StartsOf (pid : Pid) (defers : Bool) (proc : TheProc) (txn : Txn) : Type 0 where
   pub starter : txn.starter ≡ pid
   pub deferring : txn.defers ≡ defers

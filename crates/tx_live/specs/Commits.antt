@@ -15,7 +15,7 @@ use Rattle.tx_model.specs.State.{State}
 use Rattle.tx_txn.specs.Outboxes.{missed_in}
 use Rattle.tx_txn.specs.declared.txn.Txn.{Txn}
 
--- the event was made by a member of the transaction, whose log has so many changes more
+-- the event was made by a member of the transaction, whose log has this many more changes
 pub record MakesLast (before after : Parts) (marks : List (Option Mark)) (pid : Pid) (act : Act) (old new : Txn) (last : Last) : Type 0 where
   pub makes : MakesIn before after marks pid act old new last.planned
   pub count : last.count ≡ length new.log - length old.log

@@ -56,7 +56,7 @@ content_of k = record { now = now_of k; txns = λ n. option_map txn_of (slot_at 
 unfoldable pub view_of : Content → View
 view_of k = states_view (two_states_of (content_of k))
 
--- what is so of the transaction in the slot of a number
+-- what holds for the transaction in the slot of a number
 pub record IsTxn (k : Content) (n : ℕ) (txn : Txn) : Type 0 where
   pub starter : txn.starter.0 ≡ n
   -- its starter is a member, and it owns its members
@@ -64,7 +64,7 @@ pub record IsTxn (k : Content) (n : ℕ) (txn : Txn) : Type 0 where
   pub own : (p : ℕ) → is_of n (slot_at k.marks p) ≡ true → owner_of k.owners (Proc p) ≡ Some n
   pub named : AreNamed k.parts txn.log
   pub brings : BringPlaces txn.log
-  -- without its steps the counts of names are right too
+  -- without its steps the counts of names are also right
   pub counts : CountsAgree (undone k.parts txn.log)
   -- it has reserved what its starter owns
   pub objects : (o : Object) → is_in txn.objects o ≡ is_owner n (owner_of k.owners o)

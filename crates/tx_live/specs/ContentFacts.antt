@@ -18,7 +18,7 @@ pub is_covered : (k : Content) (s : ℕ) (txn : Txn) (t : ℕ) → t ≡ s → I
 is_covered k s txn t is was = subst (λ (n : ℕ). IsCovered n k.marks txn.objects) (sym is)
     (λ p of. was.objects (Proc p) ∙ ap (is_owner s) (was.own p of) ∙ eq-eqb s s refl)
 
--- a process that is there and runs makes its steps
+-- a process that exists and runs makes its steps
 pub is_actor : (actor : Actor) → IsWhole actor.parts.now → slot_at actor.parts.now.procs actor.pid.0 ≡ Some actor.proc.now → IsRunning (slot_at actor.parts.now.procs actor.pid.0) → IsActor actor
 is_actor actor whole there running =
     let bounds = slot_there actor.parts.now.procs actor.pid.0 actor.proc.now there in

@@ -1,4 +1,4 @@
--- Facts of what leads over steps, with their proofs.
+-- Facts of crossings, with their proofs.
 use Rattle.std.proofs.Common.{◌≡◌, true, false, Option, Some, None, MatchOption, refl, sym, ap, subst}
 use Rattle.tx_live.specs.Crossings.{inverse_at, moved_over, turned, undone_at, HoldsBack, HoldsForward}
 use Rattle.tx_live.specs.Redone.{moved_by, moved_of}
@@ -24,7 +24,7 @@ module _ {A : Type 0} (P : A → Type 0) where
   there_of : (found : Option A) (x : A) → found ≡ Some x → MatchOption found ⊥ P → P x
   there_of found x is holds = subst (λ (it : Option A). MatchOption it ⊥ P) is holds
 
--- what is so of what leads back, and all that follows from it
+-- what holds for what leads back, and all that follows
 pub back_so : (P Q : Inverse → Type 0) (crossing : Crossing) → ((inverse : Inverse) → P inverse → Q inverse) → HoldsBack crossing P → HoldsBack crossing Q
 back_so P Q crossing = follow P Q (inverse_at crossing)
 
@@ -38,7 +38,7 @@ is_back P crossing = there P (inverse_at crossing)
 pub is_forward : (P : Undone → Type 0) (crossing : Crossing) → HoldsForward crossing P → (undone : Undone) × (undone_at crossing ≡ Some undone) × P undone
 is_forward P crossing = there P (undone_at crossing)
 
--- it is so of that inverse where it is so of the place that has it, and the other way round
+-- it holds for that inverse exactly if it holds for the place that has it
 module _ (P : Inverse → Type 0) (crossing : Crossing) (inverse : Inverse) (is : inverse_at crossing ≡ Some inverse) where
   pub back_by : P inverse → HoldsBack crossing P
   back_by = there_by P (inverse_at crossing) inverse is
@@ -62,7 +62,7 @@ moved_turned (Begun starter) undone is = absurd (let none : None ≡ Some undone
 moved_turned (Committed boxed count held) undone is = absurd (let none : None ≡ Some undone = is in cc)
 moved_turned (Aborted boxed stood) undone is = absurd (let none : None ≡ Some undone = is in cc)
 
--- as many changes come off the stack as its step is made again
+-- as many changes come off the stack as the step is made again with
 pub moved_forward : (crossing : Crossing) (undone : Undone) → undone_at crossing ≡ Some undone → moved_over crossing ≡ moved_by undone
 moved_forward (By inverse) undone is = moved_turned inverse undone is
 moved_forward (Again taken_back) undone is = let same : taken_back ≡ undone = cc in ap moved_by same

@@ -1,4 +1,4 @@
--- What a step inside of a transaction is made with, and what it makes of the transaction.
+-- What a step inside a transaction is made with, and what it makes of the transaction.
 use Rattle.std.specs.Prelude.{◌≡◌, ◌++◌, ◌∷◌, [], ℕ, ◌-◌, ◌||◌, Bool, true, false, if◌then◌else◌, List, length, map, Option, Some, None, option_map}
 use Rattle.tx_base.specs.Slots.{slot_at}
 use Rattle.tx_base.specs.declared.marks.Mark.{Mark}
@@ -32,7 +32,7 @@ use Rattle.tx_txn.specs.Txns.{inside_at}
 use Rattle.tx_txn.specs.declared.outbox.HeldPost.{HeldPost}
 use Rattle.tx_txn.specs.declared.txn.Txn.{Txn}
 
--- what a step of a member is made inside of
+-- what a step of a member is made inside
 abbrev pub inside_in : Content → Pid → Option TheInside
 inside_in k starter = option_map (λ boxed. inside_at boxed.txn.value k.marks) (slot_at k.txns starter.0)
 
@@ -40,7 +40,7 @@ inside_in k starter = option_map (λ boxed. inside_at boxed.txn.value k.marks) (
 abbrev pub IsFootprint : Content → Event → Objects → Type 0
 IsFootprint k event footprint = (o : Object) → is_shared o ≡ true → is_in footprint o ≡ has_object o (event_footprint (table_at k.marks) event (now_of k))
 
--- no other transaction owns anything of it
+-- no other transaction owns any of it
 abbrev pub IsFree : Content → ℕ → Objects → Type 0
 IsFree k starter footprint = (o : Object) → is_in footprint o ≡ true → unless (Some starter) (owner_of k.owners o) ≡ None
 
@@ -70,14 +70,14 @@ pub record MakesIn (before after : Parts) (marks : List (Option Mark)) (pid : Pi
   pub outbox : new.outbox ≡ record { sendings = old.outbox.sendings ++ handed_out planned.sends; posts = old.outbox.posts ++ unmade_of planned.sends }
   pub rest : new ≡ record old { log = new.log; outbox = new.outbox }
 
--- a member of the transaction is refused what it is asked to do, and why
+-- why a member of the transaction is refused its act
 pub record RefusesIn (before : Parts) (marks : List (Option Mark)) (pid : Pid) (act : Act) (txn : Txn) (why : Refusal) : Type 0 where
   pub inside : Inside
   pub is : transaction_of inside ≡ inside_at txn marks
   pub held : inside.held ≡ member_sends (map sending_of txn.outbox.sendings)
   pub refuses : RefusesEvent before (Some inside) (event_of (Some (inside_at txn marks)) pid act) why
 
--- the event was made so, and the transaction has reserved the footprint
+-- the event was made, and the transaction has reserved the footprint
 pub record StepsIn (before after : Parts) (marks : List (Option Mark)) (owners others : List (Option Pid)) (pid : Pid) (act : Act) (footprint : Objects) (old new : Txn) (stepped : Stepped) : Type 0 where
   pub middle : Txn
   pub makes : MakesIn before after marks pid act old middle stepped.planned

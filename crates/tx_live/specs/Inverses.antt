@@ -53,7 +53,7 @@ abbrev pub post_changes : List HeldPost → List Change
 post_changes [] = []
 post_changes (post ∷ posts) = listed_change post.change ++ post_changes posts
 
--- what takes a post to what is kept of its target back
+-- what takes back a post to what is kept of its target
 abbrev pub kept_post : Sending → Option Unpost → Option KeptPost
 kept_post m None = None
 kept_post m (Some unpost) = Some (record { starter = m.target; unpost = unpost })
@@ -64,16 +64,16 @@ unposted_all [] posts txns = txns
 unposted_all (m ∷ ms) [] txns = txns
 unposted_all (m ∷ ms) (post ∷ posts) txns = unposted_in (kept_post m post.kept) (unposted_all ms posts txns)
 
--- the content as it was before a step outside of transactions
+-- the content as it was before a step outside transactions
 abbrev pub before_outside : Content → List Change → Option KeptPost → Content
 before_outside k log post = record k { parts = undone k.parts log; txns = unposted_in post k.txns }
 
--- the starter's number is one that there is
+-- the starter's number is in range
 abbrev pub HasStarter : List (Option BoxedTxn) → Option KeptPost → Type 0
 HasStarter txns None = Unit {0}
 HasStarter txns (Some post) = (1 ≤ post.starter.0) × (post.starter.0 ≤ length txns)
 
--- the starters of what was posted to them are ones that there are
+-- the starters that were posted to are in range
 abbrev pub HaveStarters : List (Option BoxedTxn) → List Sending → List HeldPost → Type 0
 HaveStarters txns [] posts = Unit {0}
 HaveStarters txns (m ∷ ms) [] = Unit {0}
@@ -161,7 +161,7 @@ pub record UndoesCommitted (k : Content) (boxed : BoxedTxn) (count : ℕ) (held 
   pub parts : undone (undone k.parts (post_changes boxed.txn.value.outbox.posts)) (last_of count boxed.txn.value.log) ≡ old.parts
   pub txns : with_slot (unposted_all boxed.txn.value.outbox.sendings boxed.txn.value.outbox.posts k.txns) boxed.txn.value.starter.0 (Some (with_txn boxed (uncommitted count held boxed.txn.value))) ≡ old.txns
 
--- the numbers of a transaction that ended are ones that there are
+-- the numbers of a transaction that ended are in range
 pub record HasNumbers (k : Content) (txn : Txn) : Type 0 where
   pub low : 1 ≤ txn.starter.0
   pub high : txn.starter.0 ≤ length k.parts.procs
@@ -169,7 +169,7 @@ pub record HasNumbers (k : Content) (txn : Txn) : Type 0 where
   pub named : AreNamed k.parts txn.log
   pub joined : IfSome txn.members (λ members. (n : ℕ) → is_in members.joined (Proc n) ≡ true → n ≤ length k.marks)
 
--- what the posts of a commit exchanged has numbers that there are
+-- what the posts of a commit exchanged has numbers in range
 pub record HasPosts (k : Content) (count : ℕ) (txn : Txn) : Type 0 where
   pub numbers : HasNumbers k txn
   pub few : count ≤ length txn.log
@@ -185,7 +185,7 @@ Undoes k (Begun starter) old = (boxed : BoxedTxn) × UndoesBegun k starter old b
 Undoes k (Committed boxed count held) old = (members : Members) × UndoesCommitted k boxed count held old members
 Undoes k (Aborted boxed stood) old = (members : Members) × UndoesAborted k boxed stood old members
 
--- the numbers of the inverse are ones that there are
+-- the numbers of the inverse are in range
 abbrev pub GoesWith : Content → Inverse → Type 0
 GoesWith k (Outside log post) = AreNamed k.parts log × HasStarter k.txns post
 GoesWith k (Inside starter count before marked held) = ((boxed : BoxedTxn) × HasLog k starter count boxed) × HasMark k.marks marked

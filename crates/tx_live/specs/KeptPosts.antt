@@ -1,4 +1,4 @@
--- Posts to what is kept of the starters of live transactions.
+-- Posts to what is kept of live starters.
 use Rattle.std.specs.Prelude.{◌≡◌, ℕ, List, Option, Some, option_map, length}
 use Rattle.tx_base.specs.Slots.{slot_at}
 use Rattle.tx_cred.specs.Cred.{ids_of}
@@ -7,11 +7,11 @@ use Rattle.tx_live.specs.declared.content.BoxedTxn.{BoxedTxn}
 use Rattle.tx_model.specs.State.{Sending}
 use Rattle.tx_txn.specs.Faces.{pending_after, pending_by, running}
 
--- the transaction where this was posted to what is kept of its starter
+-- the transaction with this posted to what is kept of its starter
 abbrev pub posted_one : Sending → BoxedTxn → BoxedTxn
 posted_one m boxed = with_kept_pending (pending_after m (Some (running (ids_of boxed.txn.value.kept.ids))) boxed.txn.value.kept.pending) boxed
 
--- the transaction in the slot of n, where these sends were posted to what is kept of its starter
+-- the transaction in the slot of n, with these sends posted to what is kept of its starter
 abbrev pub posted_at : ℕ → List Sending → BoxedTxn → BoxedTxn
 posted_at n ms boxed = with_kept_pending (pending_by n ms (Some (running (ids_of boxed.txn.value.kept.ids))) boxed.txn.value.kept.pending) boxed
 

@@ -1,4 +1,4 @@
--- The laws that the contents stand on.
+-- The laws that the proofs of contents use.
 use Rattle.tx_change.specs.CountsBack.{BackElsewhere, CountsLedBack, CountsOfNames}
 use Rattle.tx_change.specs.Laws.{ApplyThenRevert, ChangesComeBack, ChangesState, ExchangedStayNamed, ExchangesBack, NamedAppended, PlacesStayBack, RevertedStayNamed, RevertThenApply, SizesStay, SizesStayBack, UndoneAppended}
 use Rattle.tx_change.specs.Stacks.{LoggedBackAndForward, MovedAreThere, MovedBackAndForward, MovedIsOnTop, RestIsBelow}

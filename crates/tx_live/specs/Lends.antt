@@ -1,4 +1,4 @@
--- What the table of live transactions ends as, where a `&mut` to one of them is returned.
+-- What the table of live transactions becomes, where a `&mut` to one of them is returned.
 use Rattle.std.specs.Prelude.{ℕ, List, Option, Some}
 use Rattle.std.specs.Borrow.{Lends, Fml, MutBor}
 use Rattle.tx_base.specs.Slots.{with_slot}

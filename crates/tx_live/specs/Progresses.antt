@@ -1,4 +1,4 @@
--- What a step inside of a transaction does to who its members are.
+-- What a step inside a transaction does to its members.
 use Rattle.std.specs.Prelude.{ℕ, ◌≤◌}
 use Rattle.tx_live.specs.declared.marking.Progress.{Progress as TheProgress}
 use Rattle.tx_live.specs.declared.marking.Progress.TheVariants as the
@@ -10,7 +10,7 @@ part_of the.Continues = Continues
 part_of the.Parks = Parks
 part_of (the.Forks child) = Forks child.0
 
--- a child that joins has a number that there is
+-- a child that joins has a number in range
 abbrev pub HasChild : ℕ → TheProgress → Type 0
 HasChild width the.Continues = Unit {0}
 HasChild width the.Parks = Unit {0}

@@ -51,23 +51,23 @@ reposted_in (Some taken) txns = reposted_by taken.post.starter taken.posted txns
 abbrev pub post_in : Option TakenPost → Option KeptPost
 post_in taken = option_map (λ taken. taken.post) taken
 
--- the mark that stands where this one is to be put
+-- the mark at the place where this one is put
 abbrev pub mark_there : Option Marked → List (Option Mark) → Option Marked
 mark_there None marks = None
 mark_there (Some marked) marks = Some (record { pid = marked.pid; mark = slot_at marks marked.pid.0 })
 
--- what is held, and this too
+-- what is held, with this added
 abbrev pub with_last : Option Sending → Held → Held
 with_last None held = held
 with_last (Some m) held = record { sendings = held.sendings ++ m ∷ []; posts = held.posts ++ unmade ∷ [] }
 
--- what was held last is this, if any was
+-- this was held last, if anything was
 abbrev pub IsLastOf : Bool → Held → Option Sending → Type 0
 IsLastOf false held last = last ≡ None
 IsLastOf true held last =
     (held.sendings ≡ (less_last true held).sendings ++ option_to_list last) × (length (less_last true held).posts + length (option_to_list last) ≡ length held.posts)
 
--- the content after a step outside of transactions
+-- the content after a step outside transactions
 abbrev pub after_outside : Content → List Change → Option TakenPost → Content
 after_outside k log post = record k { parts = applied k.parts log; txns = reposted_in post k.txns }
 
@@ -92,7 +92,7 @@ pub record RedoesBegun (k : Content) (boxed : BoxedTxn) (mark : Option Mark) (af
   pub sized : length after.owners ≡ 352
   pub txns : with_slot k.txns boxed.txn.value.starter.0 (Some (with_txn boxed (record boxed.txn.value { log = exchanged k.parts boxed.txn.value.log }))) ≡ after.txns
 
--- the content after the abort of the transaction in the box, whose starter stands so then
+-- the content after the abort of the transaction in the box, with its starter at this point
 pub record RedoesAborted (k : Content) (starter : Pid) (stands : TheAnswer) (after : Content) (boxed : BoxedTxn) : Type 0 where
   pub there : slot_at k.txns starter.0 ≡ Some boxed
   pub parts : parts_after (led_parts k.parts boxed.txn.value) (standing_at starter stands) ≡ after.parts
@@ -152,14 +152,14 @@ pub record HasStep (k : Content) (starter : Pid) (count : ℕ) (marked : Option 
   pub named : AreNamed k.parts (top_of count stack)
   pub mark : HasMark k.marks marked
 
--- the number of the starter is one that there is
+-- the number of the starter is in range
 pub record HasPlace (k : Content) (txn : Txn) : Type 0 where
   pub low : 1 ≤ txn.starter.0
   pub slot : txn.starter.0 ≤ length k.txns
   pub mark : txn.starter.0 ≤ length k.marks
   pub named : AreNamed k.parts txn.log
 
--- there is such a transaction, which can be ended
+-- there is such a transaction, and it can be ended
 pub record HasEnd (k : Content) (starter : Pid) : Type 0 where
   pub boxed : BoxedTxn
   pub there : slot_at k.txns starter.0 ≡ Some boxed
@@ -179,7 +179,7 @@ pub record HasCommit (k : Content) (starter : Pid) (count : ℕ) (held : Option 
   pub signals : HaveSignals (map sending_of (with_last held boxed.txn.value.outbox).sendings)
   pub covered : IsCovered starter.0 k.marks boxed.txn.value.objects
 
--- the numbers of what makes the step again are ones that there are
+-- the numbers of what makes the step again are in range
 abbrev pub GoesAgain : Content → Undone → List Change → Type 0
 GoesAgain k (taken.Outside log post) stack = AreNamed k.parts log × HasStarter k.txns (post_in post)
 GoesAgain k (taken.Inside starter count objects marked held) stack = HasStep k starter count marked stack
@@ -187,7 +187,7 @@ GoesAgain k (taken.Begun boxed mark) stack = HasPlace k boxed.txn.value
 GoesAgain k (taken.Committed starter count held) stack = HasCommit k starter count held stack
 GoesAgain k (taken.Aborted starter stands members) stack = HasEnd k starter
 
--- nothing of a transaction that ended is in the content, whose members were these
+-- nothing of a transaction that ended, with these members, is in the content
 pub record IsGone (k : Content) (txn : Txn) (members : Members) : Type 0 where
   pub ended : txn.members ≡ Some members
   pub slot : slot_at k.txns txn.starter.0 ≡ None
@@ -195,12 +195,12 @@ pub record IsGone (k : Content) (txn : Txn) (members : Members) : Type 0 where
   pub joined : (n : ℕ) → is_in members.joined (Proc n) ≡ true → slot_at k.marks n ≡ None
   pub owners : (o : Object) → is_in txn.objects o ≡ true → owner_of k.owners o ≡ None
 
--- what the transaction held was posted, and each post came to what its outbox says
+-- what the transaction held was posted, with the outcomes that its outbox says
 pub record WasPosted (k : Content) (txn : Txn) : Type 0 where
   pub signals : HaveSignals (map sending_of txn.outbox.sendings)
   pub posts : PostsAll (undone k.parts (post_changes txn.outbox.posts)) k.parts (unposted_all txn.outbox.sendings txn.outbox.posts k.txns) k.txns txn.outbox.sendings txn.outbox.posts
 
--- the transaction that the step ended, if it ended one, is gone, and what it held was posted, if it was committed
+-- the transaction that the step ended, if any, is gone, and what it held was posted, if it was committed
 abbrev pub EndsWhole : Content → Inverse → Type 0
 EndsWhole k (Outside log post) = Unit {0}
 EndsWhole k (Inside starter count before marked held) = Unit {0}
@@ -208,12 +208,12 @@ EndsWhole k (Begun starter) = Unit {0}
 EndsWhole k (Committed boxed count held) = (members : Members) × IsGone k boxed.txn.value members × WasPosted k boxed.txn.value
 EndsWhole k (Aborted boxed stood) = (members : Members) × IsGone k boxed.txn.value members
 
--- the inverse takes the step back that led from the one content to the other, and the step left nothing of what it ended
+-- the inverse takes back the step from the one content to the other, which left nothing of what it ended
 abbrev pub TakesBack : Content → Content → Inverse → Type 0
 TakesBack before after inverse = GoesWith after inverse × Undoes after inverse before × EndsWhole after inverse
 
--- the step that led to this content was taken back: on the content before, what makes it again leads to this one, and then the stack
--- is as it was; and the inverse leads to the content before
+-- the step that led to this content was taken back: on the content before, what makes it again leads to this one, and the stack is then as
+-- it was; the inverse leads to the content before
 pub record IsTakenBack (before : Content) (undone : Undone) (stack : List Change) (after : Content) (rest : List Change) : Type 0 where
   pub inverse : Inverse
   pub fits : GoesAgain before undone stack

@@ -5,7 +5,7 @@ use Rattle.tx_live.specs.declared.content.BoxedTxn.{BoxedTxn}
 abbrev pub live_count : List (Option BoxedTxn) → ℕ
 live_count slots = count_by is_some slots
 
--- so many of the slots have one; there are no more slots than process numbers
+-- this many slots have one; there are no more slots than process numbers
 pub record IsCounted (slots : List (Option BoxedTxn)) (live : ℕ) : Type 0 where
   pub count : live ≡ live_count slots
   pub few : length slots < 2 ^ 16

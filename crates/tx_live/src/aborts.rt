@@ -18,8 +18,8 @@ use tx_proc::{Answer, Part};
 use tx_txn::Txn;
 
 impl Content {
-    /// Aborts the live transaction of a starter, which stands at the point after its sys_xbegin then, with
-    /// this answer. Puts what takes the abort back into its place. It takes no memory, and costs what the
+    /// Aborts the live transaction of a starter, which is then at the point after its sys_xbegin,
+    /// with this answer. Puts the inverse into its place. It takes no memory, and costs what the
     /// transaction changed.
     pub fn abort(&mut self, starter: Pid, ret: i64, inverse: &mut Inverse)
         requires shaped { IsShaped self.old }
@@ -38,8 +38,8 @@ impl Content {
     }
 }
 
-/// Leads the transaction back, and gives its starter this answer at the next point. Answers the point and
-/// the answer at which it stood then.
+/// Leads the transaction back, and gives its starter this answer at the next point. Answers the
+/// point and the answer that it had.
 fn take_back(txn: &mut Txn, parts: &mut Parts, ret: i64) -> Answer
     requires low { 1 ≤ txn.old.starter.0 }
     requires high { txn.old.starter.0 ≤ length parts.old.procs }
@@ -66,7 +66,7 @@ pub(crate) fn stands(parts: &Parts, pid: Pid) -> Answer
     }
 }
 
-/// Gives a process this point and answer. Nothing happens where there is no process.
+/// Gives a process this point and answer. Nothing happens if there is no process.
 pub(crate) fn stand(parts: &mut Parts, pid: Pid, answer: Answer)
     requires low { 1 ≤ pid.0 }
     requires high { pid.0 ≤ length parts.old.procs }

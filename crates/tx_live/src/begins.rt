@@ -26,8 +26,8 @@ use tx_reserve::{Object, Objects, Reservations};
 use tx_txn::Txn;
 
 impl Content {
-    /// Begins a transaction of a process that runs, is in none and is nobody's: it is answered 0, and is
-    /// the only member. Puts what takes it back into its place.
+    /// Begins a transaction of a process that runs, is in none and that nobody owns: it is answered
+    /// 0, and is the only member. Puts the inverse into its place.
     ///
     /// NoMemory where a growth is refused; the content is then as it was.
     pub fn begin(
@@ -100,7 +100,7 @@ fn start(txn: &mut Txn, parts: &mut Parts, owners: &mut Reservations)
     owners.sized();
 }
 
-/// The set of a process alone.
+/// The set of one process.
 fn only(pid: Pid) -> Objects
     ensures { (o : TheObject) → is_in result o ≡ is_only pid.0 o }
 {

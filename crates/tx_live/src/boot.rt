@@ -20,8 +20,8 @@ use tx_reserve::Reservations;
 use tx_txn::start_is_kept;
 
 impl Content {
-    /// So many process numbers, of which the first few run at point 0 with nothing else, and no
-    /// transaction. The room of all tables is made here.
+    /// This many process numbers, of which the first few run at point 0 with nothing else, and no
+    /// transaction. All tables get their room here.
     ///
     /// NoMemory where a growth is refused.
     pub fn boot(alloc: Global, width: u16, count: u16) -> Result<Content, NoMemory>

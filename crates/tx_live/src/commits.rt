@@ -28,12 +28,12 @@ use tx_txn::Txn;
 
 impl Content {
     /// Makes the act of the last member whose part is open, which ends that part, and commits the
-    /// starter's transaction: what it held is posted, in order, and what it owned is nobody's. Puts what
-    /// takes the step back into its place; its outbox says how each post was answered. Where the step's
-    /// own signals are delivered, the reply lists those of the outbox that could not be.
+    /// starter's transaction: what it held is posted, in order, and what it owned is nobody's. Puts
+    /// the inverse into its place; its outbox says how each post was answered. If the step's own
+    /// signals are delivered, the reply lists those of the outbox that could not be.
     ///
-    /// NoMemory where the plan refuses, or the place of what the step hands out; the content is then as it
-    /// was.
+    /// NoMemory where the plan refuses, or where there is no room for what the step hands out; the
+    /// content is then as it was.
     pub fn commit(
         &mut self,
         alloc: Global,

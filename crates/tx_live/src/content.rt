@@ -5,14 +5,14 @@ use tx_change::Parts;
 use tx_reserve::Reservations;
 use tx_txn::Txn;
 
-/// A live transaction in a place of its own, so that no table and no inverse moves one.
+/// A live transaction in a box, so that no table and no inverse moves one.
 #[derive(Drop)]
 pub struct BoxedTxn {
     pub txn: Box<Txn>,
 }
 
-/// The parts as they are; for each process number its mark, if it is a member of a live transaction;
-/// who owns each object; and the live transactions by the numbers of their starters.
+/// The parts; for each process number its mark, if it is a member of a live transaction; the owner
+/// of each object; and the live transactions by the numbers of their starters.
 #[derive(Drop)]
 pub struct Content {
     pub parts: Parts,

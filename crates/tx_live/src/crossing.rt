@@ -5,20 +5,20 @@ ghost use Rattle.tx_live.specs.Crossings.{moved_over, turns};
 use crate::inverse::Inverse;
 use crate::undone::Undone;
 
-/// What leads over an accepted step: back, or, once it is taken back, forward again. `take_back` and
-/// `redo` exchange the one for the other where it stands.
+/// What leads over an accepted step: back, or, once it is taken back, forward again. `take_back`
+/// and `redo` exchange the one for the other in place.
 #[derive(Drop)]
 pub enum Crossing {
-    /// By its inverse. That of a step outside of transactions that posted nothing to what is kept of a
-    /// starter, and that of a step inside that handed out no signal, lead both ways: what they have is
-    /// exchanged, and who walks knows the side. Any other leads back.
+    /// By its inverse. Those of a step outside that posted nothing to what is kept of a starter,
+    /// and of a step inside that handed out no signal, lead both ways: what they have is exchanged,
+    /// and the walker knows the side. Any other leads only back.
     By(Inverse),
     /// Forward, by what makes any other step again.
     Again(Undone),
 }
 
 impl Crossing {
-    /// What leads over no step: for a place into which a crossing is put.
+    /// What leads over no step: for a place for a crossing.
     pub(crate) fn blank() -> Crossing {
         Crossing::By(Inverse::blank())
     }

@@ -30,7 +30,7 @@ pub(crate) fn post_held(parts: &mut Parts, txns: &mut TxnTable, outbox: &mut Out
     }
 }
 
-/// Posts a signal, to the process and to what is kept of it where it is the starter of a live transaction.
+/// Posts a signal to the process, and to what is kept of it if it is a live starter.
 fn post_one(parts: &mut Parts, txns: &mut TxnTable, sending: &Sending) -> HeldPost
     requires { sending.now.signo.0 < 64 }
     ensures { PostsAll parts.old parts.new txns.old txns.new (sending.now ∷ []) (result ∷ []) }
@@ -54,7 +54,7 @@ fn unpost_of(post: Option<KeptPost>) -> Option<Unpost>
     }
 }
 
-/// Takes the posts of a commit back, the last one first: none is made then. It takes no memory.
+/// Takes the posts of a commit back, the last one first. It takes no memory.
 pub(crate) fn take_posts(parts: &mut Parts, txns: &mut TxnTable, outbox: &mut Outbox)
     requires posts { length outbox.old.posts ≡ length outbox.old.sendings }
     requires named { AreNamed parts.old (post_changes outbox.old.posts) }
@@ -74,7 +74,7 @@ pub(crate) fn take_posts(parts: &mut Parts, txns: &mut TxnTable, outbox: &mut Ou
     }
 }
 
-/// Takes a post back, which came to this.
+/// Takes back a post that came to this.
 fn take_one(parts: &mut Parts, txns: &mut TxnTable, sending: &Sending, made: HeldPost)
     requires named { AreNamed parts.old (listed_change made.change) }
     requires starter { HasStarter txns.old (kept_post sending.now made.kept) }

@@ -1,4 +1,4 @@
-//! Steps inside of a transaction.
+//! Steps inside a transaction.
 ghost use Rattle.std.specs.Prelude.{◌≡◌, ◌++◌, ◌-◌, true, length, Some, IfErr, IfOk, OnErr, OnOk, IsSome};
 ghost use Rattle.tx_base.specs.Slots.{slot_at};
 ghost use Rattle.tx_kernel.specs.Actors.{IsWhole};
@@ -25,12 +25,12 @@ use tx_reserve::{Objects, Reservations};
 use tx_txn::{Outbox, Txn};
 
 impl Content {
-    /// Makes the act of a member that runs, in the starter's transaction, which is live after
-    /// it. The footprint is that of the step, and no other transaction owns anything of it. Answers its
-    /// outcome, and puts what takes it back into its place.
+    /// Makes the act of a member that runs, in the starter's transaction, which is live after it.
+    /// The footprint is that of the step, and no other transaction owns any of it. Answers its
+    /// outcome, and puts its inverse into its place.
     ///
-    /// Refuses as its plan, and by NoMemory where the place of what it hands out is refused; the content
-    /// is then as it was.
+    /// Refuses as its plan does, and with NoMemory if there is no room for what it hands out; the
+    /// content is then as it was.
     pub fn make_inside(
         &mut self,
         alloc: Global,
@@ -96,7 +96,7 @@ impl Content {
     }
 }
 
-/// What a step inside of a transaction came to.
+/// What a step inside a transaction came to.
 #[derive(Clone, Copy)]
 struct Stepped {
     planned: Planned,
@@ -108,7 +108,7 @@ struct Stepped {
 
 /// Makes the act of a member, and reserves the footprint.
 ///
-/// Refuses as `make_in`; all is then as it was.
+/// Refuses as `make_in` does; all is then as it was.
 fn step_in(
     alloc: Global,
     parts: &mut Parts,
@@ -144,8 +144,8 @@ fn step_in(
 
 /// Makes the act of a member: its exchanges are in the log then, and what it hands out is held.
 ///
-/// Refuses as the plan, and by NoMemory where the place of what it hands out is refused; all is then as
-/// it was.
+/// Refuses as the plan does, and with NoMemory if there is no room for what it hands out; all is
+/// then as it was.
 pub(crate) fn make_in(
     alloc: Global,
     parts: &mut Parts,
@@ -174,7 +174,7 @@ pub(crate) fn make_in(
     Ok(planned)
 }
 
-/// Holds what a step hands out. After want of memory the outbox is as it was.
+/// Holds what a step hands out. If memory is refused, the outbox is as it was.
 fn hold_sends(outbox: &mut Outbox, sends: &Sends) -> Result<(), NoMemory>
     ensures sendings { OnOk result
         (outbox.new.sendings ≡ outbox.old.sendings ++ handed_out sends.now) }

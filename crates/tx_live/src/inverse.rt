@@ -1,4 +1,4 @@
-//! What takes an accepted step back.
+//! The inverse of an accepted step.
 ghost use Rattle.std.specs.Prelude.{◌≡◌};
 
 use crate::content::{BoxedTxn, Content};
@@ -10,10 +10,10 @@ use tx_change::Log;
 use tx_proc::Answer;
 use tx_reserve::Objects;
 
-/// What takes an accepted step back, on the content as the step left it.
+/// The inverse of an accepted step, on the content as the step left it.
 #[derive(Drop)]
 pub enum Inverse {
-    /// Of a step outside of transactions: the old parts, and its post to what is kept of a starter.
+    /// Of a step outside transactions: the old parts, and its post to what is kept of a starter.
     Outside {
         log: Log,
         post: Option<KeptPost>,
@@ -38,8 +38,8 @@ pub enum Inverse {
         count: usize,
         held: bool,
     },
-    /// Of an abort: the transaction, whose log has what it took back, and the point and the answer at
-    /// which its starter stood then.
+    /// Of an abort: the transaction, whose log has what it took back, and the point and the answer
+    /// that its starter had.
     Aborted {
         boxed: BoxedTxn,
         stood: Answer,
@@ -47,7 +47,7 @@ pub enum Inverse {
 }
 
 impl Inverse {
-    /// What takes no step back: for a place into which steps put their inverses.
+    /// The inverse of no step: for a place into which steps put their inverses.
     pub fn blank() -> Inverse
         ensures { result ≡ Inverse.Begun (record { 0 = 0 }) }
     {
@@ -56,8 +56,8 @@ impl Inverse {
 }
 
 impl Content {
-    /// Puts an inverse into a place. What stood there is let go, but for room of it that the next steps
-    /// can use, if it is not large. The content stays as it is.
+    /// Puts an inverse into a place. What was there is dropped, but its room, if not large, is kept
+    /// for the next steps. The content stays as it is.
     #[inline(always)] // each step puts one, and a call of its own costs 47
     pub(crate) fn put_inverse(&mut self, place: &mut Inverse, inverse: Inverse)
         ensures content { self.new ≡ self.old }

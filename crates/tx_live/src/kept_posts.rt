@@ -1,4 +1,4 @@
-//! Posts to what is kept of the starters of live transactions.
+//! Posts to what is kept of live starters.
 ghost use Rattle.std.specs.Prelude.{◌≡◌, ◌∷◌, [], ◌<◌, ◌≤◌, length, IfSome, Some};
 ghost use Rattle.tx_kernel.specs.Plans.{HasSignal, sending_of, sent_at_once};
 ghost use Rattle.tx_live.specs.Inverses.{unposted_at, unposted_if, unposted_in, HasStarter};
@@ -18,16 +18,16 @@ pub struct KeptPost {
     pub unpost: Unpost,
 }
 
-/// A post to what is kept of a starter that was taken back, and what makes it again, if the starter has a
-/// live transaction.
+/// A post that was taken back from what is kept of a starter, and what makes it again, if the
+/// starter has a live transaction.
 #[derive(Clone, Copy)]
 pub struct TakenPost {
     pub post: KeptPost,
     pub posted: Option<Repost>,
 }
 
-/// Posts what a step sends at once to what is kept of its target, if that is the starter of a live
-/// transaction. Answers what takes the post back, where it changed anything. It takes no memory.
+/// Posts what a step sends at once to what is kept of its target, if that is a live starter.
+/// Answers what takes the post back, if it changed anything. It takes no memory.
 pub(crate) fn post_sends(txns: &mut TxnTable, sends: &Sends) -> Option<KeptPost>
     requires { HasSignal sends.now }
     ensures posted { PostsKept txns.old txns.new (sent_at_once sends.now) }
@@ -41,8 +41,8 @@ pub(crate) fn post_sends(txns: &mut TxnTable, sends: &Sends) -> Option<KeptPost>
     }
 }
 
-/// Posts a signal, whose number must be below 64, to what is kept of its target, if that is the starter
-/// of a live transaction. Answers what takes the post back, where it changed anything.
+/// Posts a signal, whose number must be below 64, to what is kept of its target, if that is a live
+/// starter. Answers what takes the post back, if it changed anything.
 pub(crate) fn post_kept(txns: &mut TxnTable, sending: &Sending) -> Option<KeptPost>
     requires { sending.now.signo.0 < 64 }
     ensures posted { PostsKept txns.old txns.new (sending_of sending.now ∷ []) }
@@ -67,8 +67,8 @@ fn post_boxed(boxed: &mut BoxedTxn, sending: &Sending) -> Option<Unpost>
     boxed.txn.kept.post(sending)
 }
 
-/// Takes the last post to what is kept of a starter back, and answers what makes it again. Nothing happens
-/// where the starter has no transaction.
+/// Takes back the last post to what is kept of a starter, and answers what makes it again. Nothing
+/// happens if the starter has no transaction.
 pub(crate) fn take_post(txns: &mut TxnTable, post: KeptPost) -> TakenPost
     requires { HasStarter txns.old (Some post) }
     ensures taken { txns.new ≡ unposted_in (Some post) txns.old }
@@ -85,7 +85,8 @@ pub(crate) fn take_post(txns: &mut TxnTable, post: KeptPost) -> TakenPost
     }
 }
 
-/// Takes the last post to what is kept of a transaction's starter back. Answers what makes it again.
+/// Takes back the last post to what is kept of a transaction's starter. Answers what makes it
+/// again.
 fn unpost_boxed(boxed: &mut BoxedTxn, unpost: Unpost) -> Repost
     ensures taken { boxed.new ≡ unposted_at unpost boxed.old }
     ensures again { reposted_at result boxed.new ≡ boxed.old }
@@ -93,7 +94,7 @@ fn unpost_boxed(boxed: &mut BoxedTxn, unpost: Unpost) -> Repost
     boxed.txn.kept.unpost(unpost)
 }
 
-/// Makes a post to what is kept of a starter again that was taken back. Answers what takes it back.
+/// Makes again a post to what is kept of a starter that was taken back. Answers what takes it back.
 pub(crate) fn remake_post(txns: &mut TxnTable, taken: TakenPost) -> KeptPost
     requires { HasStarter txns.old (Some taken.post) }
     ensures again { txns.new ≡ reposted_in (Some taken) txns.old }
@@ -106,7 +107,7 @@ pub(crate) fn remake_post(txns: &mut TxnTable, taken: TakenPost) -> KeptPost
     post
 }
 
-/// Makes a post to what is kept of this starter again. Nothing happens where it has no transaction.
+/// Makes again a post to what is kept of this starter. Nothing happens if it has no transaction.
 fn remake_post_at(txns: &mut TxnTable, starter: Pid, posted: Repost)
     requires low { 1 ≤ starter.0 }
     requires high { starter.0 ≤ length txns.old }

@@ -1,4 +1,4 @@
-//! The laws that the contents stand on.
+//! The laws that the proofs of contents use.
 ghost use Rattle.tx_live.specs.Laws.{LiveLaws};
 
 use tx_change::{
@@ -9,7 +9,7 @@ use tx_laws::{answers_of_states, inside};
 use tx_reserve::owners_are_told;
 use tx_txn::{events_are_made, events_leave_rest, logs_keep, logs_lead_back};
 
-/// The laws on which the proofs of contents stand. It does nothing.
+/// The laws that the proofs of contents use. It does nothing.
 pub(crate) fn laws()
     ensures { LiveLaws }
 {

@@ -1,4 +1,4 @@
-//! The mark that a step inside of a transaction changes.
+//! The mark that a step inside a transaction changes.
 ghost use Rattle.std.specs.Prelude.{◌≡◌, ℕ, ◌≤◌, length, Some};
 ghost use Rattle.tx_base.specs.Slots.{slot_at, with_slot};
 ghost use Rattle.tx_live.specs.Inverses.{remarked, HasMark};
@@ -7,7 +7,7 @@ ghost use Rattle.tx_model.specs.Membership.{defers_in, marks_after, new_mark, pa
 
 use tx_base::{Mark, Pid, Slots};
 
-/// What a step inside of a transaction does to who its members are.
+/// What a step inside a transaction does to its members.
 #[derive(Clone, Copy)]
 pub enum Progress {
     Continues,
@@ -24,7 +24,7 @@ pub struct Marked {
     pub mark: Option<Mark>,
 }
 
-/// Changes the mark that such a step of a member changes. Answers what was there.
+/// Changes the mark of such a step. Answers what was there.
 pub(crate) fn mark_progress(
     marks: &mut Slots<Mark>,
     starter: Pid,

@@ -1,4 +1,4 @@
-//! Steps outside of transactions.
+//! Steps outside transactions.
 ghost use Rattle.std.specs.Prelude.{◌≡◌, [], None, IfErr, IfOk, OnErr, OnOk};
 ghost use Rattle.tx_base.specs.Slots.{slot_at};
 ghost use Rattle.tx_kernel.specs.Actors.{IsWhole};
@@ -19,11 +19,11 @@ use tx_change::Log;
 use tx_kernel::{Act, Outcome};
 
 impl Content {
-    /// Makes the act of a process that runs and is in no transaction. Answers its outcome,
-    /// and puts what takes it back into its place: where the inverse of another step outside stands
-    /// there, the room of its log is used again.
+    /// Makes the act of a process that runs and is in no transaction. Answers its outcome, and puts
+    /// the inverse into its place: if the inverse of another step outside is there, its log's room
+    /// is used again.
     ///
-    /// Refuses as its plan; the content is then as it was.
+    /// Refuses as its plan does; the content is then as it was.
     pub fn make_outside(
         &mut self,
         alloc: Global,
@@ -61,9 +61,9 @@ impl Content {
         }
     }
 
-    /// Makes the act of a process that runs and is in no transaction, with an empty log.
-    /// Puts what takes it back into the log, and where its post to what is kept of a starter stands.
-    /// Refuses as the plan; the content is then as it was.
+    /// Makes the act of a process that runs and is in no transaction, with an empty log. Puts the
+    /// changes that take it back into the log, and what takes back its post to what is kept of a
+    /// starter into its place. Refuses as the plan does; the content is then as it was.
     #[inline(always)] // a call of its own costs each step outside 25
     fn make_logged(
         &mut self,

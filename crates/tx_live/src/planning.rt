@@ -1,4 +1,4 @@
-//! The plan of a step, for parts that it is made on.
+//! The plan of a step on these parts.
 ghost use Rattle.std.specs.Prelude.{◌≡◌, IfErr, IfOk, OnErr, OnOk, drop, length, take};
 ghost use Rattle.tx_base.specs.Slots.{slot_at};
 ghost use Rattle.tx_change.specs.Exchange.{AreNamed};
@@ -13,7 +13,7 @@ use tx_kernel::{Act, Actor, Inside, Planned, plans_are_made};
 
 /// Plans the act of a process that runs: its exchanges are at the end of the log then.
 ///
-/// Refuses as `Actor::plan`; the log is then as it was.
+/// Refuses as `Actor::plan` does; the log is then as it was.
 pub(crate) fn plan(
     alloc: Global,
     parts: &Parts,

@@ -35,9 +35,10 @@ use tx_reserve::{Objects, Reservations};
 use tx_txn::{Members, Outbox, Txn};
 
 impl Content {
-    /// Makes the step again over which this leads forward, on the content before it, and exchanges it where
-    /// it stands: it leads back then. It reads no plan and judges nothing, and takes the changes of a step
-    /// inside off the stack. It takes no memory but room that a step inside had in its transaction.
+    /// Makes the step again that this leads forward over, on the content before it, and exchanges
+    /// it in place: then it leads back. It plans and judges nothing, and takes the changes of a
+    /// step inside off the stack. It takes no memory but room that a step inside had in its
+    /// transaction.
     ///
     /// `NoMemory` where that is refused; all is then as it was.
     pub fn redo(&mut self, crossing: &mut Crossing, stack: &mut Vec<Change>) -> Result<(), NoMemory>
@@ -97,7 +98,7 @@ impl Content {
         }
     }
 
-    /// Makes a step again whose inverse leads both ways, and exchanges what it has.
+    /// Makes again a step whose inverse leads both ways, and exchanges what that has.
     ///
     /// NoMemory where a growth is refused; all is then as it was.
     fn turn_forward(
@@ -139,7 +140,8 @@ impl Content {
         }
     }
 
-    /// Makes a step outside of transactions again that posted nothing, and leaves its inverse as its log.
+    /// Makes again a step outside transactions that posted nothing, and leaves its inverse in its
+    /// log.
     fn redo_log(&mut self, log: &mut Log)
         requires { GoesAgain self.old (taken.Outside log.old None) [] }
         ensures made { self.new ≡ after_outside self.old log.old None }
@@ -148,7 +150,7 @@ impl Content {
         log.lead_forward(&mut self.parts);
     }
 
-    /// Makes a step outside of transactions again, and puts its inverse into its place.
+    /// Makes again a step outside transactions, and puts its inverse into its place.
     fn redo_outside(&mut self, log: Log, post: Option<TakenPost>, crossing: &mut Crossing)
         requires { GoesAgain self.old (taken.Outside log post) [] }
         ensures made { self.new ≡ after_outside self.old log post }
@@ -161,8 +163,8 @@ impl Content {
         *crossing = Crossing::By(Inverse::Outside { log, post });
     }
 
-    /// Makes a step inside of the starter's transaction again, whose changes are on top of the stack, and
-    /// puts its inverse into its place.
+    /// Makes again a step inside the starter's transaction, whose changes are on top of the stack,
+    /// and puts its inverse into its place.
     ///
     /// NoMemory where a growth is refused; all is then as it was, with what makes the step again in its
     /// place.
@@ -217,8 +219,8 @@ impl Content {
         Ok(())
     }
 
-    /// Makes a step inside of the starter's transaction again, whose changes are on top of the stack, and
-    /// exchanges what it reserves and the mark for those that take it back.
+    /// Makes again a step inside the starter's transaction, whose changes are on top of the stack,
+    /// and exchanges what it reserves and its mark.
     ///
     /// NoMemory where a growth is refused; all is then as it was.
     fn redo_member(
@@ -264,8 +266,8 @@ impl Content {
         Ok(())
     }
 
-    /// Makes the first step of this transaction again, which is live then, and puts its inverse into its
-    /// place.
+    /// Makes again the first step of this transaction, which is live then, and puts its inverse
+    /// into its place.
     fn redo_begun(&mut self, boxed: BoxedTxn, mark: Option<Mark>, crossing: &mut Crossing)
         requires { GoesAgain self.old (taken.Begun boxed mark) [] }
         ensures made { (after : Content) (inverse : TheInverse) →
@@ -284,8 +286,8 @@ impl Content {
         *crossing = Crossing::By(Inverse::Begun { starter });
     }
 
-    /// Makes the commit of the starter's transaction again, and puts its inverse into its place: the
-    /// changes of its last step are on top of the stack, and what it held is posted.
+    /// Makes again the commit of the starter's transaction, and puts its inverse into its place:
+    /// the changes of its last step are on top of the stack, and what it held is posted.
     ///
     /// NoMemory where a growth is refused; all is then as it was, with what makes the step again in its
     /// place.
@@ -334,8 +336,8 @@ impl Content {
         Ok(())
     }
 
-    /// Makes the abort of the starter's transaction again, and puts its inverse into its place: its starter
-    /// stands so then, and these were its members.
+    /// Makes again the abort of the starter's transaction, and puts its inverse into its place: its
+    /// starter is then at this point, and these were its members.
     fn redo_aborted(
         &mut self,
         starter: Pid,
@@ -364,7 +366,7 @@ impl Content {
     }
 }
 
-/// Makes a post to what is kept of a starter again, if there was one. Answers what takes it back.
+/// Makes again a post to what is kept of a starter, if there was one. Answers what takes it back.
 fn remake_post_if(txns: &mut TxnTable, post: Option<TakenPost>) -> Option<KeptPost>
     requires { HasStarter txns.old (post_in post) }
     ensures again { txns.new ≡ reposted_in post txns.old }
@@ -376,7 +378,7 @@ fn remake_post_if(txns: &mut TxnTable, post: Option<TakenPost>) -> Option<KeptPo
     }
 }
 
-/// Makes the last step of a member again, whose changes are on top of the stack, and reserves these
+/// Makes again the last step of a member, whose changes are on top of the stack, and reserves these
 /// objects. Answers what was reserved before.
 ///
 /// NoMemory where a growth is refused; all is then as it was.
@@ -412,8 +414,8 @@ fn remake_step(
     Ok(before)
 }
 
-/// Makes the last step of a transaction again, whose changes are on top of the stack, and holds what it
-/// handed out.
+/// Makes again the last step of a transaction, whose changes are on top of the stack, and holds
+/// what it handed out.
 ///
 /// NoMemory where a growth is refused; all is then as it was.
 fn remake_last(
@@ -447,7 +449,7 @@ fn remake_last(
     Ok(())
 }
 
-/// Holds this too, if there is one. After want of memory the outbox is as it was.
+/// Holds this too, if there is one. If memory is refused, the outbox is as it was.
 fn hold_again(outbox: &mut Outbox, held: Option<Sending>) -> Result<(), NoMemory>
     ensures held { OnOk result (outbox.new ≡ with_last held outbox.old) }
     ensures err { OnErr result (outbox.new ≡ outbox.old) }

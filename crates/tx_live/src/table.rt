@@ -13,13 +13,13 @@ use tx_change::Log;
 use tx_proc::Proc;
 use tx_txn::Txn;
 
-/// How many old parts a log may have whose room is kept: those of a thousand stores, in 112 KiB. Room
-/// as large that is given back and asked for anew makes the allocator join all that it has free.
+/// How many old parts a log may have whose room is kept: those of a thousand stores, in 112 KiB.
+/// Larger room, freed and taken again, makes the allocator merge all its free memory.
 const KEPT_PARTS: usize = 2_048;
 
-/// The live transactions by the numbers of their starters. Contracts see the list of them, that of
-/// number 1 first. Beside it the room is kept of one transaction that ended, and of the log of one
-/// step outside, so that the next ones need not take memory.
+/// The live transactions by the numbers of their starters. Contracts see only their list, number 1
+/// first. Beside it is the room of one transaction that ended, and of the log of one step outside,
+/// so that the next ones need not take memory.
 #[derive(Drop)]
 pub struct TxnTable {
     slots: Slots<BoxedTxn>,
@@ -44,7 +44,7 @@ impl Model for TxnTable {
 impl TxnTable {
     ghost use Rattle.tx_live.specs.Lends.{lends_txn};
 
-    /// So many numbers without a transaction. NoMemory where a growth is refused.
+    /// A table of this many numbers without a transaction. NoMemory where a growth is refused.
     pub fn new(alloc: Global, width: u16) -> Result<TxnTable, NoMemory>
         ensures { IfOk result (λ table. table ≡ replicate width None) }
     {
@@ -64,14 +64,14 @@ impl TxnTable {
         self.live == 0
     }
 
-    /// The transaction of a starter; nothing where it has none.
+    /// The transaction of a starter, if it has one.
     pub fn get(&self, starter: Pid) -> Option<&BoxedTxn>
         ensures { option_copied result ≡ slot_at self.now starter.0 }
     {
         self.slots.get(starter)
     }
 
-    /// The live transaction of a starter, to be changed where it stands.
+    /// The live transaction of a starter, to change in place.
     pub fn value_mut(&mut self, starter: Pid) -> &mut BoxedTxn
         requires { IsSome (slot_at self.old starter.0) }
         ensures* writes_back { sem 𝓛 (lends_txn self.entry starter.0 result) }
@@ -80,7 +80,7 @@ impl TxnTable {
         self.slots.value_mut(starter)
     }
 
-    /// Takes out the transaction of a starter, whose number must be one that there is.
+    /// Takes out the transaction of a starter, whose number must be in range.
     pub fn take(&mut self, starter: Pid) -> Option<BoxedTxn>
         requires low { 1 ≤ starter.0 }
         requires high { starter.0 ≤ length self.old }
@@ -94,7 +94,7 @@ impl TxnTable {
         taken
     }
 
-    /// Puts in the transaction of a starter, whose number must be one that there is.
+    /// Puts in the transaction of a starter, whose number must be in range.
     pub fn put(&mut self, starter: Pid, boxed: BoxedTxn)
         requires low { 1 ≤ starter.0 }
         requires high { starter.0 ≤ length self.old }
@@ -106,8 +106,8 @@ impl TxnTable {
         self.slots.put(starter, boxed);
     }
 
-    /// A transaction that the process begins, with no old parts, for the table to hold. The room is
-    /// that of one that ended, if some was kept.
+    /// A transaction that the process begins, with no old parts, for the table. It has the room of
+    /// one that ended, if some was kept.
     ///
     /// NoMemory where a growth is refused.
     pub(crate) fn fresh(
@@ -127,7 +127,7 @@ impl TxnTable {
         new_box(alloc, starter, defers, proc)
     }
 
-    /// An empty log for a step outside. The room is that of an earlier step's, if some was kept. It takes
+    /// An empty log for a step outside, with the room of an earlier one, if some was kept. It takes
     /// no memory.
     pub(crate) fn fresh_log(&mut self, alloc: Global) -> Log
         ensures table { self.new ≡ self.old }
@@ -165,8 +165,8 @@ impl TxnTable {
     }
 }
 
-/// A transaction that the process begins, with no old parts, in a new box. Its place on the stack is
-/// large, so it is a function of its own.
+/// A transaction that the process begins, with no old parts, in a new box. It is a function of its
+/// own because it uses much of the stack.
 ///
 /// NoMemory where a growth is refused.
 fn new_box(alloc: Global, starter: Pid, defers: bool, proc: &Proc) -> Result<BoxedTxn, NoMemory>

@@ -1,4 +1,4 @@
-//! The undo of a step that is kept, so that it can be made again by exchange.
+//! The undo of a step that keeps what makes the step again by exchange.
 ghost use Rattle.std.specs.Prelude.{◌≡◌, ◌≤◌, ◌+◌, ◌&&◌, List, false, not, length, IsTrue, None, if◌then◌else◌, vec_capacity};
 ghost use Rattle.tx_change.specs.Exchange.{reverted, undone, AreNamed};
 ghost use Rattle.tx_change.specs.Stacks.{moved_onto};
@@ -33,8 +33,8 @@ use tx_reserve::{Objects, Reservations};
 use tx_txn::Txn;
 
 impl Content {
-    /// Takes the step back over which this leads back, as `undo` does, and exchanges it where it stands:
-    /// it leads forward then. The changes of a step inside are moved onto the stack, which must have room
+    /// Takes back the step that this leads back over, as `undo` does, and exchanges it in place:
+    /// then it leads forward. The changes of a step inside go onto the stack, which must have room
     /// for them: see `Crossing::moved`. It takes no memory and is never refused.
     pub fn take_back(&mut self, crossing: &mut Crossing, stack: &mut Vec<Change>)
         requires fits { HoldsBack crossing.old (GoesWith self.old) }
@@ -74,7 +74,7 @@ impl Content {
         }
     }
 
-    /// Takes a step back whose inverse leads both ways, and exchanges what that has.
+    /// Takes back a step whose inverse leads both ways, and exchanges what that has.
     fn turn_back(&mut self, crossing: &mut Crossing, stack: &mut Vec<Change>)
         requires turns { IsTrue (turns crossing.old) }
         requires fits { HoldsBack crossing.old (GoesWith self.old) }
@@ -108,8 +108,8 @@ impl Content {
         }
     }
 
-    /// Takes a step outside of transactions back that posted nothing, and leaves what makes it again as
-    /// its log.
+    /// Takes back a step outside transactions that posted nothing, and leaves what makes it again
+    /// in its log.
     fn take_log_back(&mut self, log: &mut Log)
         requires { GoesWith self.old (Outside log.old None) }
         ensures before { self.new ≡ before_outside self.old log.old None }
@@ -122,7 +122,7 @@ impl Content {
         log.lead_back(&mut self.parts);
     }
 
-    /// Takes a step outside of transactions back, and puts what makes it again into its place.
+    /// Takes back a step outside transactions, and puts what makes it again into its place.
     pub(crate) fn take_back_outside(
         &mut self,
         log: Log,
@@ -143,8 +143,8 @@ impl Content {
         *crossing = Crossing::Again(Undone::Outside { log, post });
     }
 
-    /// Takes a step inside of the starter's transaction back, and puts into its place what makes it again
-    /// with the changes that it moves onto the stack.
+    /// Takes back a step inside the starter's transaction, and puts into its place what makes it
+    /// again, with the changes that it moves onto the stack.
     fn take_back_inside(
         &mut self,
         starter: Pid,
@@ -179,9 +179,8 @@ impl Content {
         });
     }
 
-    /// Takes a step inside of the starter's transaction back, moves its changes onto the stack, and
-    /// exchanges what was reserved and the mark for those that make it again. Answers what it handed out,
-    /// if it did.
+    /// Takes back a step inside the starter's transaction, moves its changes onto the stack, and
+    /// exchanges what was reserved and its mark. Answers the signal that it handed out, if it did.
     fn take_member_back(
         &mut self,
         starter: Pid,
@@ -221,8 +220,8 @@ impl Content {
         last
     }
 
-    /// Takes the first step of the starter's transaction back, and puts what makes it again into its place,
-    /// which owns the transaction then.
+    /// Takes back the first step of the starter's transaction, and puts what makes it again into
+    /// its place, which then owns the transaction.
     pub(crate) fn take_back_begun(&mut self, starter: Pid, crossing: &mut Crossing)
         requires { GoesWith self.old (Begun starter) }
         ensures before { (prior : Content) → Undoes self.old (Begun starter) prior →
@@ -242,8 +241,8 @@ impl Content {
         *crossing = Crossing::Again(Undone::Begun { boxed, mark });
     }
 
-    /// Takes the commit of this transaction back, and puts into its place what makes it again with the
-    /// changes that it moves onto the stack.
+    /// Takes back the commit of this transaction, and puts into its place what makes it again, with
+    /// the changes that it moves onto the stack.
     fn take_back_committed(
         &mut self,
         boxed: BoxedTxn,
@@ -280,7 +279,7 @@ impl Content {
         });
     }
 
-    /// Takes the abort of this transaction back, and puts what makes it again into its place.
+    /// Takes back the abort of this transaction, and puts what makes it again into its place.
     fn take_back_aborted(&mut self, boxed: BoxedTxn, stood: Answer, crossing: &mut Crossing)
         requires { GoesWith self.old (Aborted boxed stood) }
         ensures before { (prior : Content) → Undoes self.old (Aborted boxed stood) prior →
@@ -305,7 +304,8 @@ impl Content {
     }
 }
 
-/// Takes a post to what is kept of a starter back, if there was one, and answers what makes it again.
+/// Takes back a post to what is kept of a starter, if there was one, and answers what makes it
+/// again.
 fn take_post_if(txns: &mut TxnTable, post: Option<KeptPost>) -> Option<TakenPost>
     requires { HasStarter txns.old post }
     ensures taken { txns.new ≡ unposted_in post txns.old }
@@ -316,8 +316,8 @@ fn take_post_if(txns: &mut TxnTable, post: Option<KeptPost>) -> Option<TakenPost
     Some(take_post(txns, post))
 }
 
-/// Takes the last step of a member back: moves so many of the log's last changes onto the stack, and gives
-/// up what was not reserved before. Answers what it handed out, if it did.
+/// Takes back the last step of a member: moves this many of the log's last changes onto the stack,
+/// and gives up what was not reserved before. Answers the signal that it handed out, if it did.
 fn move_step(
     txn: &mut Txn,
     parts: &mut Parts,
@@ -348,8 +348,8 @@ fn move_step(
     last
 }
 
-/// Takes the last step of a transaction back: moves so many of the log's last changes onto the stack.
-/// Answers what it handed out, if it did.
+/// Takes back the last step of a transaction: moves this many of the log's last changes onto the
+/// stack. Answers the signal that it handed out, if it did.
 fn move_last(
     txn: &mut Txn,
     parts: &mut Parts,

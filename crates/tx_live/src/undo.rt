@@ -25,8 +25,8 @@ use tx_reserve::{Objects, Reservations};
 use tx_txn::Txn;
 
 impl Content {
-    /// Takes the step back whose inverse this is, on the content as that step left it. It takes no memory
-    /// and is never refused.
+    /// Takes back the step with this inverse, on the content as that step left it. It takes no
+    /// memory and is never refused.
     pub fn undo(&mut self, inverse: Inverse)
         requires { GoesWith self.old inverse }
         ensures { (before : Content) → Undoes self.old inverse before → self.new ≡ before }
@@ -46,7 +46,7 @@ impl Content {
         }
     }
 
-    /// Takes a step outside of transactions back.
+    /// Takes back a step outside transactions.
     fn undo_outside(&mut self, log: Log, post: Option<KeptPost>)
         requires { GoesWith self.old (Outside log post) }
         ensures { self.new ≡ before_outside self.old log post }
@@ -55,7 +55,7 @@ impl Content {
         self.take_back_outside(log, post, &mut left);
     }
 
-    /// Takes a step inside of the starter's transaction back.
+    /// Takes back a step inside the starter's transaction.
     fn undo_inside(
         &mut self,
         starter: Pid,
@@ -81,7 +81,7 @@ impl Content {
         let _left = put_mark(&mut self.marks, marked);
     }
 
-    /// Takes the first step of the starter's transaction back, and lets the transaction go.
+    /// Takes back the first step of the starter's transaction, and drops the transaction.
     fn undo_begun(&mut self, starter: Pid)
         requires { GoesWith self.old (Begun starter) }
         ensures { (prior : Content) → Undoes self.old (Begun starter) prior → self.new ≡ prior }
@@ -90,7 +90,7 @@ impl Content {
         self.take_back_begun(starter, &mut left);
     }
 
-    /// Takes the commit of this transaction back.
+    /// Takes back the commit of this transaction.
     fn undo_committed(&mut self, boxed: BoxedTxn, count: usize, held: bool)
         requires { GoesWith self.old (Committed boxed count held) }
         ensures { (prior : Content) → Undoes self.old (Committed boxed count held) prior →
@@ -106,7 +106,7 @@ impl Content {
         self.txns.put(starter, boxed);
     }
 
-    /// Takes the abort of this transaction back.
+    /// Takes back the abort of this transaction.
     pub(crate) fn undo_aborted(&mut self, boxed: BoxedTxn, stood: Answer)
         requires { GoesWith self.old (Aborted boxed stood) }
         ensures { (prior : Content) → Undoes self.old (Aborted boxed stood) prior →
@@ -122,8 +122,8 @@ impl Content {
     }
 }
 
-/// Takes the last step of a member back: so many of the log's last changes, what it handed out if it
-/// did, and what it reserved that was not reserved before.
+/// Takes back the last step of a member: this many of the log's last changes, any signal that it
+/// handed out, and what it was first to reserve.
 fn take_step(
     txn: &mut Txn,
     parts: &mut Parts,
@@ -147,8 +147,8 @@ fn take_step(
     owners.sized();
 }
 
-/// Takes the last step of a transaction back: so many of the log's last changes, and what it handed out
-/// if it did.
+/// Takes back the last step of a transaction: this many of the log's last changes, and any signal
+/// that it handed out.
 fn take_last(txn: &mut Txn, parts: &mut Parts, count: usize, held: bool)
     requires few { count ≤ length txn.old.log }
     requires named { AreNamed parts.old txn.old.log }
@@ -164,7 +164,7 @@ fn take_last(txn: &mut Txn, parts: &mut Parts, count: usize, held: bool)
     }
 }
 
-/// Puts a mark back that a step changed, if it changed one. Answers the mark that stood there.
+/// Puts back a mark that a step changed, if it changed one. Answers the mark that was there.
 pub(crate) fn put_mark(marks: &mut Slots<Mark>, marked: Option<Marked>) -> Option<Marked>
     requires { HasMark marks.old marked }
     ensures marks { marks.new ≡ remarked marked marks.old }
@@ -175,8 +175,8 @@ pub(crate) fn put_mark(marks: &mut Slots<Mark>, marked: Option<Marked>) -> Optio
     Some(Marked { pid, mark })
 }
 
-/// Makes all again that an abort led back: its starter stands as it did, and all changes of its log
-/// are made.
+/// Makes again all that an abort led back: its starter is as it was, and all changes of its log are
+/// made.
 fn lead_on(txn: &mut Txn, parts: &mut Parts, stood: Answer)
     requires low { 1 ≤ txn.old.starter.0 }
     requires high { txn.old.starter.0 ≤ length parts.old.procs }

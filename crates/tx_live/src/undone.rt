@@ -12,11 +12,11 @@ use tx_proc::Answer;
 use tx_reserve::Objects;
 use tx_txn::Members;
 
-/// What makes a step again that was taken back, on the content before the step. The changes of a step
-/// inside stand on a stack beside it.
+/// What makes a step again that was taken back, on the content before the step. The changes of a
+/// step inside are on a stack beside it.
 #[derive(Drop)]
 pub enum Undone {
-    /// Of a step outside of transactions: the new parts, and its post to what is kept of a starter.
+    /// Of a step outside transactions: the new parts, and its post to what is kept of a starter.
     Outside {
         log: Log,
         post: Option<TakenPost>,
@@ -42,8 +42,7 @@ pub enum Undone {
         count: usize,
         held: Option<Sending>,
     },
-    /// Of an abort: the point and the answer at which the starter stands after it, and who the members
-    /// were.
+    /// Of an abort: the point and the answer of the starter after it, and who the members were.
     Aborted {
         starter: Pid,
         stands: Answer,
@@ -52,7 +51,7 @@ pub enum Undone {
 }
 
 impl Inverse {
-    /// How many changes go onto the stack where the step is taken back and kept.
+    /// How many changes go onto the stack when the step is taken back and kept.
     pub fn moved(&self) -> usize
         ensures { result ≡ moved_of self.now }
     {
@@ -65,7 +64,7 @@ impl Inverse {
 }
 
 impl Undone {
-    /// How many changes are taken off the stack where the step is made again.
+    /// How many changes come off the stack when the step is made again.
     pub fn moved(&self) -> usize
         ensures { result ≡ moved_by self.now }
     {

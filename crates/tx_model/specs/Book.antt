@@ -1,5 +1,5 @@
--- The rule book: for each call one page, which is read from the top. XSH is POSIX.1-2017's volume of system interfaces;
--- where a page names no source its rule is an own one.
+-- The rule book: for each call one page, which is read from the top. XSH is POSIX.1-2017's volume
+-- of system interfaces; a page that names no source is an own rule.
 use Rattle.std.specs.Prelude.{ℕ, ◌+◌, Bool, true, false, not, ◌&&◌, ◌||◌, List, [], ◌∷◌, ◌++◌, length, ℤ, pos, Option, Some, None, if◌then◌else◌, nat_lt, ◌==◌, min, take, drop, is_some, bit_and, slice_set, zero, suc, negsuc}
 use Rattle.std.specs.Ordering.{int_eq}
 use Rattle.tx_base.specs.Signals.{bits_of}
@@ -244,7 +244,7 @@ read f address v c = do
   let memory = stored_memory c.process.memory (address_of address) (take m bytes)
   changes (pos m) (record c.process { memory = memory }) (SetPipe end.pipe (Some (drop m bytes)) ∷ [])
 
--- bytes at an address are put behind those of a pipe, all or none (XSH, write())
+-- bytes at an address are appended to those of a pipe, all or none (XSH, write())
 abbrev pub write : ℤ → ℤ → ℤ → Rule
 write f address v c = do
   end ← end_at is_write_side f c or fails BadDescriptor

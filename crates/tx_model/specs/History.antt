@@ -53,7 +53,7 @@ module _ (t : Table) where
   abbrev pub is_other_starter : ℕ → ℕ → Bool
   is_other_starter p n = if is_live t n then not (is_member_of t n p) else false
 
-  -- of posts, but for the starters of other transactions
+  -- of posts, except the starters of other transactions
   unfoldable pub targets : ℕ → List Sending → List Object
   targets p [] = []
   targets p (m ∷ ms) = if is_other_starter p m.target then targets p ms else Proc m.target ∷ targets p ms

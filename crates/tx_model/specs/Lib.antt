@@ -1,6 +1,6 @@
--- In the order in which to read them. What the headline says stands first: the state, the rule book and its small words,
--- deliveries, posts and events; then who is in which transaction, what is left of a history, what there is to see of it,
--- and the answer to a step.
+-- In the order in which to read them. What the headline says comes first: the state, the rule book
+-- and its small words, deliveries, posts and events; then who is in which transaction, what is left
+-- of a history, what there is to see of it, and the answer to a step.
 pub mod Numbers
 pub mod SignalSets
 pub mod Memory

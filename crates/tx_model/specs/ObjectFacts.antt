@@ -14,7 +14,7 @@ same_self (Desc n) = eq-eqb n n refl
 same_self (Pipe n) = eq-eqb n n refl
 same_self (Held n) = eq-eqb n n refl
 
--- objects that are told to be the same are one
+-- objects that the test calls the same are one
 pub same_is : (o x : Object) → same_object o x ≡ true → o ≡ x
 same_is (Proc n) (Proc m) h = ap Proc (eqb-true n m h)
 same_is (Proc n) (Desc m) h = cc
@@ -38,7 +38,7 @@ pub has_head : (o : Object) (os : List Object) → has_object o (o ∷ os) ≡ t
 unfolding has_object
 has_head o os = rw (same_self o) refl
 
--- and each of those behind it
+-- and each of those after it
 pub has_tail : (o x : Object) (os : List Object) → has_object o os ≡ true → has_object o (x ∷ os) ≡ true
 unfolding has_object
 has_tail o x os h = by (same_object o x)

@@ -38,14 +38,14 @@ orphan_writes (q ∷ qs) S = SetProc q (with_parent 1 (S.procs q)) ∷ orphan_wr
 abbrev pub child_notice : ℕ → Sending
 child_notice parent = record { target = parent; signo = child_signo; value = pos 0; from = None }
 
--- how the parent of a process that ends is told
+-- how the parent of a process that ends is notified
 pub data Notice : Type 0 where
   NotTold : Notice
   AtOnce : Notice
   -- when the transaction of this starter commits
   AtCommit : ℕ → Notice
 
--- process 1 is not told; a parent that is no member is told at the commit
+-- process 1 is not notified; a parent that is no member is notified at the commit
 abbrev pub parent_notice : Option Inside → ℕ → Notice
 parent_notice inside parent = do
   NotTold when parent == 1
@@ -61,7 +61,7 @@ abbrev pub notice_held : Notice → ℕ → State → List Write
 notice_held (AtCommit s) parent S = SetHeld s (S.held s ++ child_notice parent ∷ []) ∷ []
 notice_held parent_notice parent S = []
 
--- the children get parent 1, the descriptors are closed, and the parent is told
+-- the children get parent 1, the descriptors are closed, and the parent is notified
 abbrev pub ending : ℕ → Caller → Effect
 ending status c =
     let parent = c.process.parent in

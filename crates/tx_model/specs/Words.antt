@@ -61,7 +61,7 @@ pub record Own : Type 0 where
 abbrev pub answers_with : ℤ → Process → Own
 answers_with r me = record { process = with_answer r me; reply = Done r }
 
--- the step concerns its own process alone
+-- the step concerns only its own process
 abbrev pub own_effect : ℕ → Own → Effect
 own_effect p own = process_effect p own.process [] own.reply
 

@@ -1,7 +1,5 @@
-//! The rules that the kernel is held to, as definitions in `specs/`: the state, the rule book with
-//! a page for each call, deliveries, posts, the plain kernel, membership, histories, survivors, the
-//! state without some transactions, footprints, what is in the way, the answer to a step.
-//! `docs/DEFINITIONS.md` is their map. Every crate cites these; none has a second version of one.
+//! The rules that the kernel is held to, as definitions in `specs/`. `docs/DEFINITIONS.md` is their
+//! map. Every crate cites these; none has a second version of one.
 //!
 //! `StateLaws` has a few lemmas on states, and `BookLaws` one for each page, for the proofs of all
 //! crates: what holds of each line of a page, where that line decides, holds of what the page comes

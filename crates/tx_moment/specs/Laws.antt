@@ -1,4 +1,4 @@
--- The laws that a moment stands on.
+-- The laws that the proof of a moment uses.
 use Rattle.std.specs.Prelude.{List}
 use Rattle.tx_base.specs.declared.steps.Accepted.{Accepted}
 use Rattle.tx_model.specs.State.{State}
@@ -11,7 +11,7 @@ use Rattle.tx_laws.specs.WellFormed.{IsWellFormed}
 use Rattle.tx_laws.specs.WellFormedTable.{HoldsNothing, IsWellFormedWith}
 use Rattle.tx_moment.specs.Unseen.{UnseenSignalsStay, UnseenObjectsStay, UnseenRepliesStay}
 
--- the laws of single events that this stands on
+-- the laws of single events that it uses
 pub record EventLaws : Type 0 where
   pub effects : EffectIsLocal
   pub objects : ObjectsAreLocal

@@ -1,4 +1,4 @@
--- Two lists put together into one, each in its order. Own rules.
+-- Two lists merged into one, each in its order. Own rules.
 use Rattle.std.specs.Prelude.{◌≡◌, List, [], ◌∷◌, ◌⊎◌}
 use Rattle.tx_base.specs.declared.steps.Accepted.{Accepted}
 

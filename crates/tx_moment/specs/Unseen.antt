@@ -21,13 +21,13 @@ resignalled_if g (Some q) = Some (resignalled g q)
 abbrev pub with_signals : ℕ → Signals → State → State
 with_signals s g S = write_one (SetProc s (resignalled_if g (S.procs s))) S
 
--- the event is none in which process s looks at its signals
+-- the event is not one in which process s looks at its signals
 abbrev pub overlooks : ℕ → Event → Bool
 overlooks s (Do step inside) = not (process_of step == s && looks_at_signals step)
 overlooks s (Note p r) = true
 overlooks s (Commit t ev) = overlooks s ev
 
--- an event that looks at no signals of process s, which is there, and sends it none
+-- an event that looks at no signals of process s, which exists, and sends it none
 pub record LeavesSignals (s : ℕ) (event : Event) (state : State) : Type 0 where
   pub there : is_some (state.procs s) ≡ true
   pub overlooks : overlooks s event ≡ true
@@ -43,7 +43,7 @@ abbrev pub UnseenObjectsStay : Type 0
 UnseenObjectsStay = (event : Event) (state : State) (s : ℕ) (g : Signals) → LeavesSignals s event state →
     objects event (with_signals s g state) ≡ objects event state
 
--- it sends the same, and has the same reply
+-- it sends the same and has the same reply
 abbrev pub UnseenRepliesStay : Type 0
 UnseenRepliesStay = (event : Event) (state : State) (s : ℕ) (g : Signals) → LeavesSignals s event state →
     ((effect event (with_signals s g state)).sends ≡ (effect event state).sends) × (reply_of event (with_signals s g state) ≡ reply_of event state)

@@ -1,5 +1,5 @@
-//! Signals that are pending at a process which does not look at them, as the contract of a function that
-//! does nothing.
+//! Signals pending at a process that does not look at them, as the contract of a function that does
+//! nothing.
 ghost use Rattle.tx_moment.specs.Unseen.{UnseenObjectsStay, UnseenRepliesStay, UnseenSignalsStay};
 
 /// A step that looks at no signals of a process, and sends it none, does the same whatever is pending

@@ -1,4 +1,4 @@
--- What a call on pages comes to, by its page of the rule book.
+-- The outcome of a call on pages, by its page of the rule book.
 use Rattle.std.specs.Prelude.{◌≡◌, ◌<◌, ℕ, true, false, List, [], ◌∷◌, Some, None, Result, Ok, Err, length, slice_set, ℤ}
 use Rattle.tx_base.specs.declared.errors.Errno.TheVariants.{BadAddress, InvalidArgument}
 use Rattle.tx_model.specs.Book.{with_memory}
@@ -15,8 +15,8 @@ abbrev pub IsChange : Outcome → Type 0
 IsChange (changes r q writes) = Unit {0}
 IsChange outcome = ⊥
 
--- where the result is Ok the process has this memory and answers 0, and an error is the answer; memory is refused to a
--- change alone
+-- where the result is Ok the process has this memory and answers 0, else the error is the answer;
+-- only a change can be refused memory
 abbrev pub Remembers : {A : Type 0} → Result A PageError → Memory → Rule → Caller → Type 0
 Remembers (Ok _) memory rule c = rule c ≡ with_memory memory c
 Remembers (Err Invalid) memory rule c = rule c ≡ fails InvalidArgument
@@ -49,7 +49,7 @@ abbrev pub with_pages : Memory → List NewPage → Memory
 with_pages memory [] = memory
 with_pages memory (new ∷ pages) = with_pages (slice_set memory new.number new.page) pages
 
--- each page number is one that there is
+-- each page number is valid
 abbrev pub AreNumbered : List NewPage → Type 0
 AreNumbered [] = Unit {0}
 AreNumbered (new ∷ pages) = (new.number < 16) × AreNumbered pages

@@ -1,17 +1,13 @@
-//! The pages of a process. Their bytes may be shared with other processes, and a write always goes
-//! into a new frame.
+//! The pages of a process. Copies share their bytes, and a write always makes a new frame.
 //!
-//! `Page` is a flag and a frame of 64 bytes, and `Space` sixteen places for pages. Contracts see a
-//! page as its flag and bytes, and a space as the list of what each number has, the `Memory` of the
-//! definitions. Frames are shared between pages that were copied; a write always makes a new frame.
-//! That is nowhere in a contract: a space is a map of pages, shared or not.
+//! Contracts see a `Page` as its flag and bytes, and a `Space` as the `Memory` of the definitions:
+//! no contract says that frames are shared.
 //!
-//! A call that changes pages has two forms. `map`, `unmap`, `protect` and `store` do it.
-//! `plan_map`, `plan_unmap`, `plan_protect` and `plan_store` read, take all the memory that is
-//! wanted, and answer which page numbers are to have which pages; `swap_page` then exchanges one.
-//! A store most often lies on one page: `plan_store_on_page` answers that page, with no list.
-//! `load` and `take` read. Each outcome has its clause: which error comes exactly when, and that
-//! the pages are as they were.
+//! A call that changes pages has two forms. `map`, `unmap`, `protect` and `store` do it. Their
+//! plans (`plan_map`, ..) read, take all the memory, and answer what is put in place; `swap_page`
+//! exchanges one page. Most stores lie on one page: `plan_store_on_page` answers that page, without
+//! a list. Each outcome has its clause: which error comes exactly when, and that the pages are as
+//! they were.
 #![tactic(auto)]
 
 mod access;

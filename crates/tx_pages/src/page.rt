@@ -43,7 +43,7 @@ impl Page {
 
     /// An equal page, which shares the frame.
     ///
-    /// NoMemory where the frame can't be shared once more.
+    /// NoMemory where the frame can't be shared again.
     pub fn share(&self) -> Result<Page, NoMemory>
         ensures { IfOk result (λ page. page ≡ self.now) }
     {
@@ -69,7 +69,7 @@ impl Page {
         &self.frame
     }
 
-    /// Says whether it may be written.
+    /// Sets whether it may be written.
     pub fn set_writable(&mut self, writable: bool)
         ensures { self.new ≡ record self.old { writable = writable } }
     {

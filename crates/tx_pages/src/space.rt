@@ -72,7 +72,7 @@ impl Space {
     /// An equal copy of what a page number has, which shares the frame; nothing where there is no
     /// such number.
     ///
-    /// NoMemory where the frame can't be shared once more.
+    /// NoMemory where the frame can't be shared again.
     pub fn copy_page(&self, number: usize) -> Result<Option<Page>, NoMemory>
         ensures { IfOk result (λ page. page ≡ page_at self.now number) }
     {
@@ -84,7 +84,7 @@ impl Space {
 
     /// Equal pages, which share their frames.
     ///
-    /// NoMemory where a frame can't be shared once more.
+    /// NoMemory where a frame can't be shared again.
     pub fn copy(&self) -> Result<Space, NoMemory>
         ensures { IfOk result (λ space. space ≡ self.now) }
     {
@@ -121,7 +121,7 @@ impl Space {
         Ok(())
     }
 
-    /// Says whether a page may be written. Own rule.
+    /// Sets whether a page may be written. Own rule.
     ///
     /// Invalid where the number is not one of a mapped page. The pages are then as they were.
     pub fn protect(&mut self, page: i64, writable: bool) -> Result<(), PageError>
@@ -245,7 +245,7 @@ impl Space {
         })
     }
 
-    /// Which page number is to have nothing, by an unmap. Nothing is changed.
+    /// Which page number will have nothing, by an unmap. Nothing is changed.
     ///
     /// Invalid as at `unmap`.
     pub fn plan_unmap(&self, page: i64) -> Result<NewPage, PageError>
@@ -265,7 +265,7 @@ impl Space {
 
     /// The page with the flag, which shares the frame of the present one. Nothing is changed.
     ///
-    /// Invalid as at `protect`; NoMemory where the frame can't be shared once more.
+    /// Invalid as at `protect`; NoMemory where the frame can't be shared again.
     pub fn plan_protect(&self, page: i64, writable: bool) -> Result<NewPage, PageError>
         ensures answer { (c : Caller) → c.process.memory ≡ self.now →
             Remembers result (with_new self.now result) (protect page writable) c }

@@ -1,5 +1,5 @@
--- Which steps begin and end the boxes of a picture, by what they are to the transactions and by what they are answered. Own
--- rules.
+-- Which steps begin and end the boxes of a picture, by their roles in transactions and by their
+-- answers. Own rules.
 use Rattle.std.specs.Prelude.{◌≡◌, ◌≤◌, ◌==◌, ◌&&◌, ℕ, Bool, true, false, List, [], Option, Some, None, find, option_map}
 use Rattle.tx_base.specs.declared.names.Pid.{Pid}
 use Rattle.tx_base.specs.declared.steps.Reply.TheVariants.{Aborted, Committed}
@@ -28,14 +28,15 @@ pub data Ends (V : View) (step : Step) (s : ℕ) : Bool → Type 0 where
   commits : (undelivered : _) → role_on V step ≡ Commits s → answer V step ≡ Committed undelivered → Ends V step s false
   aborts : (status told : ℕ) → role_on V step ≡ Aborts s status → answer V step ≡ Aborted told → Ends V step s true
 
--- how a step changes of which transaction process p is a member
+-- how a step changes the transaction that process p is a member of
 abbrev pub Changes : View → Step → ℕ → Option Pid → Option Pid → Type 0
 Changes V step p None None = Unit {0}
 Changes V step p None (Some s) = Joins V step s.0 p
 Changes V step p (Some s) None = Ends V step s.0 (is_abort (role_on V step))
 Changes V step p (Some s) (Some other) = other ≡ s
 
--- a process becomes a member by such a step alone, is one until a step ends its transaction, and never changes over to another
+-- only such a step makes a process a member; it is one until a step ends its transaction, and never
+-- moves to another
 abbrev pub MembersChange : Type 0
 MembersChange = (V : View) (step : Step) (p : ℕ) → IsSound V → IsAccepted (answer V step) → Changes V step p (members V p) (members (next V step) p)
 

@@ -47,6 +47,6 @@ name_of captioned p k = name_in captioned.notes.names (find (is_life p (instance
 abbrev pub line_of : Captioned → ℕ → Option (List ℕ)
 line_of captioned step = slice_get captioned.notes.lines step
 
--- a word as it is shown: of one with more than so many bytes the first ones, and two dots
+-- a word as it is shown: where it has more than so many bytes the first ones, and two dots
 abbrev pub short : ℕ → List ℕ → List ℕ
 short most word = if nat_lt most (length word) then take (most - 2) word ++ codes ".." else word

@@ -74,7 +74,7 @@ is_abort (Aborts s status) = true
 abbrev pub ending : View → Step → ℕ → End
 ending V step row = record { row = row; aborted = is_abort (role_on V step) }
 
--- the step of a row more, which leads from one view to another: the same where it waits
+-- one row more, whose step leads from one view to another: to the same where it waits
 abbrev pub drawn_with : View → Step → ℕ → View → Drawn → Drawn
 drawn_with V step row W drawn = record {
   before = drawn.before;

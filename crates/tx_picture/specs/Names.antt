@@ -1,4 +1,4 @@
--- Which process a name is for: a number that is forked anew is that of another process. Own rules.
+-- Which process a name is for: a number that is forked again is that of another process. Own rules.
 use Rattle.std.specs.Prelude.{ℕ, ◌+◌, Bool, ◌&&◌, ◌==◌, List, [], ◌∷◌, ◌++◌, count_by, max, nat_le, Option, Some, if◌then◌else◌}
 use Rattle.std.specs.List.{list_any}
 use Rattle.tx_base.specs.declared.steps.Reply.{Reply}

@@ -1,4 +1,4 @@
-//! The processes that forks make: a number that is forked anew is that of another process.
+//! The processes that forks make: a number that is forked again is that of another process.
 ghost use Rattle.std.specs.Prelude.{◌≡◌, ◌++◌, IfErr, IfOk, OnOk, map};
 ghost use Rattle.tx_lines.specs.Lines.{FitsHeader};
 ghost use Rattle.tx_lines.specs.declared.faults.Fault.TheVariants.{NoMemory};
@@ -20,7 +20,7 @@ pub(crate) struct Birth {
     pub process: Pid,
 }
 
-/// The processes that the steps of a schedule make. Where there is no name none is asked for.
+/// The processes that the steps of a schedule make. Where there is no name none is found.
 ///
 /// The only fault is `NoMemory`.
 pub(crate) fn births_for(
@@ -65,9 +65,9 @@ fn note_birth(births: &mut Vec<Birth>, step: usize, tie: Option<Tie>) -> Result<
     }
 }
 
-/// Which of the processes of a number is there after so many steps, where so many processes are there
-/// at the start. Those that forks make count from 1; so does one that no fork makes and that is not
-/// there at the start. One that is has 0.
+/// Which of the processes of a number is there after so many steps, where so many processes are
+/// there at the start. One that is there at the start has 0. Those that forks make count from 1; so
+/// does one that no fork makes and that is not there at the start.
 pub(crate) fn instance(start: u16, births: &[Birth], process: Pid, position: usize) -> usize
     ensures { result ≡ instance start births.now process.0 position }
 {

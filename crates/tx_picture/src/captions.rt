@@ -97,7 +97,8 @@ impl<'a> Captions<'a> {
     }
 }
 
-/// Appends a word as it is shown: of one with more than so many bytes the first ones, and two dots.
+/// Appends a word as it is shown: where it has more than so many bytes the first ones, and two
+/// dots.
 pub(crate) fn put_short(shown: &mut Vec<u8>, word: &[u8], most: usize) -> Result<(), AllocError>
     requires { 2 ≤ most }
     ensures { OnOk result (shown.new.items ≡ shown.old.items ++ short most word.now) }

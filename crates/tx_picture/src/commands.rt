@@ -20,8 +20,8 @@ use std::alloc::Global;
 use tx_lines::{Fault, Schedule, Sink, Source, read_whole, write_whole};
 use tx_plain::{Written, read_schedule};
 
-/// Reads the text of a schedule to its end, makes its steps, and writes the picture of an excerpt of
-/// them in SVG. Nothing is written where the fault is another one than `Writer`.
+/// Reads the text of a schedule to its end, makes its steps, and writes the picture of an excerpt
+/// of them in SVG. Where the fault is not `Writer` nothing is written.
 pub fn picture<S: Source, W: Sink>(
     alloc: Global,
     excerpt: Excerpt,
@@ -46,7 +46,7 @@ pub fn picture<S: Source, W: Sink>(
 /// after the last step has no row. The text of a picture is a well-formed document of XML: one element
 /// holds all, each that is opened is closed, none has an attribute twice, and each text is escaped.
 ///
-/// A fault where the text can't be read, or a growth of memory is refused, as `picture` tells it.
+/// A fault where the text can't be read, or a growth of memory is refused, as `picture` reports it.
 #[tactic(auto, unfolding(crate::specs::Grammars::pictures))]
 pub fn picture_text(alloc: Global, excerpt: Excerpt, text: &[u8]) -> Result<String, Fault>
     ensures answers { AnswersText (pictures excerpt (notes_of text.now)) text.now result }

@@ -16,12 +16,12 @@ use tx_base::Step;
 pub struct Excerpt {
     /// The first of them. Steps count from 1.
     pub from: u16,
-    /// The last of them; the schedule's last one, where it has not so many.
+    /// The last of them, or the schedule's last one, where it has fewer.
     pub to: u16,
 }
 
 impl Excerpt {
-    /// All steps of a schedule, which has 4,096 at most.
+    /// All steps of a schedule, which has at most 4,096.
     pub const WHOLE: Excerpt = Excerpt { from: 1, to: 4096 };
 
     /// The steps of a schedule to the last one that is shown.

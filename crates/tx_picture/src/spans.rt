@@ -24,7 +24,7 @@ pub struct Span {
     pub holder: Pid,
     /// The row of the step that began it, or 0 where it was there at the start.
     pub from: u16,
-    /// Where it ends; nothing where it lasts to the end of the schedule.
+    /// Where it ends; nothing where it lasts to the schedule's end.
     pub end: Option<End>,
 }
 

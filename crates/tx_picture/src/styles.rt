@@ -1,6 +1,6 @@
-//! The looks of a picture, and its legend. Two colours that a colour-blind reader tells apart, two
-//! hatchings, marks that are full, empty or half full, and dashes and heads of arrows, so that it reads
-//! in grey too.
+//! The looks of a picture, and its legend. Two colours that a colour-blind reader can distinguish,
+//! two hatchings, marks that are full, empty or half full, and dashes and heads of arrows, so that
+//! it reads in grey too.
 
 /// What every picture has before all else: the styles of the classes, the fills, the heads of arrows,
 /// and the white page.

@@ -1,4 +1,4 @@
-//! Who could end the wait of a step that is refused since it waits.
+//! Who could end the wait of a refused step.
 ghost use Rattle.std.specs.Prelude.{◌≡◌, ◌≤◌, ◌++◌, IfOk, OnOk, option_map, string_bytes};
 ghost use Rattle.std.specs.List.{flat_map};
 ghost use Rattle.tx_live.specs.Content.{view_of};

@@ -16,13 +16,13 @@ front_exchanged count bytes held = if can_exchange count bytes held then bytes +
 abbrev pub back_exchanged : ℕ → List ℕ → List ℕ → List ℕ
 back_exchanged count bytes held = if can_exchange count bytes held then take (length held - count) held ++ bytes else held
 
--- the bytes that stood there
+-- the bytes that were there
 abbrev pub front_given : ℕ → List ℕ → List ℕ → List ℕ
 front_given count bytes held = if can_exchange count bytes held then take count held else bytes
 
 abbrev pub back_given : ℕ → List ℕ → List ℕ → List ℕ
 back_given count bytes held = if can_exchange count bytes held then drop (length held - count) held else bytes
 
--- how many are to be exchanged to take it back
+-- how many must be exchanged to take it back
 abbrev pub count_given : ℕ → List ℕ → List ℕ → ℕ
 count_given count bytes held = if can_exchange count bytes held then length bytes else count

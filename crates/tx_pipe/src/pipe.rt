@@ -75,7 +75,7 @@ impl Pipe {
         self.bytes.try_extend_from_slice(bytes).is_ok()
     }
 
-    /// Takes bytes from the front, as many as are held and there is room for, and says how many.
+    /// Takes bytes from the front, as many as are held and there is room for, and answers how many.
     /// They are written to the front of the room, and the rest of it stays as it was. It takes 0
     /// where the pipe is empty or there is no room. POSIX.1-2017, XSH, read(), from a pipe.
     pub fn read(&mut self, into: &mut [u8]) -> usize

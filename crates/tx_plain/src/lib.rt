@@ -1,18 +1,12 @@
 #![tactic(auto)]
 //! Texts as people write them, "version 3": the text of version 2 that one means.
 //!
-//! `plain_text` translates a text, and the readers of version 2 then read what it makes. A line is
-//! taken (`lines.rt`), its words are found one after another (`reading.rt`, `words.rt`), and each is
-//! put behind the text as version 2 spells it, by its role in its call (`roles.rt`): bytes
-//! (`byte_words.rt`, `strings.rt`), a signal (`signals.rt`), a set (`sets.rt`), or as it is. What is
-//! wrong stays as it is, so that the reader refuses it in its line; of each line of the plain text it
-//! is known which line of the person's it comes from. A text of version 2 means itself, but for its
-//! header (`laws.rt`). A line that gives a name to a process means none (`names.rt`); `Written` has these
-//! names, and the lines of the steps as their author wrote them. A line that comes alone means what it
-//! means behind the header of a schedule (`single.rt`). Schedules, with commands or without, and programs
-//! are read line by line (`meant_lines.rt`, `first_lines.rt`, `texts.rt`, `schedules.rt`, `walks.rt`,
-//! `programs.rt`); a step that is spelled nearly as in version 2 is read without the whole line of that
-//! (`respelled.rt`).
+//! `plain_text` translates a text, and the readers of version 2 read the result. Each word of a
+//! line is appended as version 2 spells it, by its role in its call (`roles.rt`). What is wrong
+//! stays as it is, so that the reader refuses it in its line. A line that names a process means
+//! none (`names.rt`); `Written` has the names, and the steps as their author wrote them. A line
+//! alone means what it means after the header of a schedule (`single.rt`). A step that is spelled
+//! nearly as in version 2 is read without making that line (`respelled.rt`).
 
 mod arguments;
 mod byte_words;

@@ -1,5 +1,4 @@
--- A fact of counts of children. It follows from the definitions and is proved here, so nobody has to
--- believe it.
+-- A fact of counts of children. It is proved here, so nobody has to believe it.
 use Rattle.std.proofs.Common.{nat_lt, ◌≡◌, ℕ, zero, suc, ◌≤◌, Bool, true, false, List, Option, Some, None, if◌then◌else◌, ◌==◌, get_or, length, arith, refl, inl, inr}
 use Rattle.std.proofs.lemmas.Bool.{cases_Bool, ltb-true, ltb-false}
 use Rattle.std.proofs.lemmas.List.{get_or_past}

@@ -24,7 +24,7 @@ ExchangesBack = (proc : Proc) (part : Part) → edited_once (edited_once proc pa
 abbrev pub NothingElse : Type 0
 NothingElse = (proc : Proc) (part other : Part) → is_same_part part other ≡ false → part_of (edited_once proc part) other ≡ part_of proc other
 
--- it makes no difference which of two parts is exchanged first
+-- two parts may be exchanged in either order
 abbrev pub Commute : Type 0
 Commute = (proc : Proc) (part other : Part) → is_same_part part other ≡ false →
     edited_once (edited_once proc part) other ≡ edited_once (edited_once proc other) part

@@ -1,5 +1,4 @@
--- Facts of parts and of their exchange. They follow from the definitions and are proved here, so
--- nobody has to believe them.
+-- Facts of parts and of their exchange. They are proved here, so nobody has to believe them.
 use Rattle.std.proofs.Common.{◌≡◌, Option, Some, None, option_map, ap, refl, ◌∙◌, length-set}
 use Rattle.tx_desc.specs.Places.{number_in}
 use Rattle.tx_proc.specs.Laws.{IsSized}
@@ -27,7 +26,7 @@ still_sized proc (Action signo action) sized =
     record { slots = sized.slots; pages = sized.pages; descriptors = sized.descriptors; actions = length-set proc.actions signo.0 action ∙ sized.actions }
 still_sized proc part sized = record { slots = sized.slots; pages = sized.pages; descriptors = sized.descriptors; actions = sized.actions }
 
--- what an exchange makes of the process that is meant
+-- what an exchange makes of the process that the rules have
 pub revised_of : (proc : Proc) (part : Part) → process_of (edited_once proc part) ≡ revised part (process_of proc)
 revised_of proc (Answer answer) = refl
 revised_of proc part = refl

@@ -83,7 +83,7 @@ abbrev pub pending_in : Option Proc → PendingView → PendingView
 pending_in None pending = pending
 pending_in (Some proc) pending = proc.pending
 
--- a number in the part is one that there is
+-- a number in the part is valid
 abbrev pub HasPlace : Part → Type 0
 HasPlace (Register slot) = slot.number < 8
 HasPlace (Page number page) = number < 16

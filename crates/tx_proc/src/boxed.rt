@@ -1,4 +1,4 @@
-//! What stands in a place of its own: a process, and a frame that is exchanged.
+//! What has a place of its own: a process, and a frame that is exchanged.
 ghost use Rattle.std.specs.Prelude.{◌≡◌, IfOk};
 ghost use Rattle.tx_proc.specs.Parts.{edited_once, part_of, frames_swapped, frame_given, with_pending, HasPlace};
 ghost use Rattle.tx_proc.specs.declared.proc.Part.TheVariants.{Answer as SetAnswer};
@@ -9,8 +9,8 @@ use std::marker::Model;
 use tx_base::{NoMemory, Pid};
 use tx_signal::{Frame, Frames, Pending};
 
-/// A process in a place of its own, so that a table moves no process. Its parent stands beside it
-/// too, so that who is whose child is read in the table alone. Contracts see the process.
+/// A process in a place of its own, so that a table moves no process. Its parent is beside it too,
+/// so that only the table is read to find whose child it is. Contracts see the process.
 #[derive(Drop)]
 pub struct BoxedProc {
     parent: Pid,
@@ -54,7 +54,7 @@ impl BoxedProc {
         self.parent
     }
 
-    /// Exchanges a part of the process. The part must have a number that there is.
+    /// Exchanges a part of the process. A number in the part must be valid.
     pub fn swap_part(&mut self, part: &mut Part)
         requires { HasPlace part.old }
         ensures proc { self.new ≡ edited_once self.old part.old }

@@ -22,7 +22,7 @@ pub fn nothing_else()
     ensures { NothingElse }
 {}
 
-/// It makes no difference which of two parts is exchanged first.
+/// Two parts may be exchanged in either order.
 pub fn commute()
     ensures { Commute }
 {}

@@ -1,4 +1,4 @@
-//! What a process has, and one part of it: what that was or is to be.
+//! What a process has, and one part of it with its old or new value.
 ghost use Rattle.std.specs.Prelude.{◌≡◌};
 ghost use Rattle.tx_model.specs.State.{bare_process, booted_process};
 ghost use Rattle.tx_proc.specs.Parts.{edited_once, part_of, queue_swapped, queue_given, HasPlace};
@@ -129,8 +129,8 @@ pub struct Register {
     pub value: i64,
 }
 
-/// One part of a process, and what it was or is to be. It owns that old or new part, so to
-/// exchange it takes no memory. Own rule.
+/// One part of a process, and its old or new value. It owns that value, so an exchange takes no
+/// memory. Own rule.
 #[derive(Drop)]
 pub enum Part {
     /// The point and the answer of the last call.
@@ -153,14 +153,14 @@ pub enum Part {
     Action(Signo, Action),
     /// The standard signals that are pending.
     Pending(SigSet),
-    /// An entry of the queue of realtime signals: the one at the place, or one to be put in there.
+    /// An entry of the queue of realtime signals: the one at the place, or one to put in there.
     Queued(usize, Option<Queued>),
     /// The newest of the frames, or one to be the newest.
     Frame(BoxedFrame),
 }
 
 impl Part {
-    /// Exchanges the part with that of the process. A number in it must be one that there is.
+    /// Exchanges the part with that of the process. A number in it must be valid.
     #[tactic(auto, using(crate::proofs::Names::desc_back))]
     pub fn swap(&mut self, proc: &mut Proc)
         requires { HasPlace self.old }
@@ -193,8 +193,8 @@ pub(crate) fn swap_answer(regs: &mut Regs, answer: &mut Answer)
     mem::swap(&mut regs.ret, &mut answer.ret);
 }
 
-/// Takes the entry at the place out where none comes in; puts the one in there that comes where
-/// there is room.
+/// Takes out the entry at the place where none comes in; else puts in there the one that comes,
+/// where there is room.
 #[inline(never)] // inlined, each exchange of a part would save the registers that it takes
 #[tactic(auto, using(crate::proofs::Limits::queue_fits, crate::proofs::Limits::entry_fits))]
 fn swap_entry(pending: &mut Pending, place: usize, entry: &mut Option<Queued>)

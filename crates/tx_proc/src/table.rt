@@ -15,7 +15,7 @@ use std::mem;
 use tx_base::{NoMemory, Pid};
 use tx_signal::Pending;
 
-/// The processes by number, from 1 to the width. The children of each number are counted beside, so
+/// The processes by number, from 1 to the width. The children of each number are counted too, so
 /// that an end of a process without children need not look for them. Contracts see the list of what
 /// each number has, that of number 1 first.
 #[derive(Drop)]
@@ -76,7 +76,7 @@ impl ProcTable {
         Some(boxed.parent())
     }
 
-    /// How many processes have this parent. It must be one of the numbers that there are, or 0.
+    /// How many processes have this parent. It must be a valid number, or 0.
     pub fn child_count(&self, parent: Pid) -> usize
         requires { parent.0 ≤ length self.now }
         ensures { result ≡ child_count parent.0 self.now }
@@ -91,7 +91,7 @@ impl ProcTable {
         self.get(pid).is_none()
     }
 
-    /// Puts a process at a free number, which must be one that there is. It takes no memory.
+    /// Puts a process at a free number, which must be valid. It takes no memory.
     pub fn put(&mut self, pid: Pid, boxed: BoxedProc)
         requires low { 1 ≤ pid.0 }
         requires high { pid.0 ≤ length self.old }
@@ -103,7 +103,7 @@ impl ProcTable {
         self.children.recount(None, Some(parent));
     }
 
-    /// Takes out what a number has, which is free then. The number must be one that there is.
+    /// Takes out what a number has, which is free then. The number must be valid.
     pub fn remove(&mut self, pid: Pid) -> Option<BoxedProc>
         requires low { 1 ≤ pid.0 }
         requires high { pid.0 ≤ length self.old }
@@ -115,7 +115,7 @@ impl ProcTable {
         taken
     }
 
-    /// Exchanges what a number has. The number must be one that there is.
+    /// Exchanges what a number has. The number must be valid.
     pub fn swap(&mut self, pid: Pid, slot: &mut Option<BoxedProc>)
         requires low { 1 ≤ pid.0 }
         requires high { pid.0 ≤ length self.old }
@@ -128,7 +128,7 @@ impl ProcTable {
     }
 
     /// Exchanges a part of the process that a number has; nothing happens where it has none. The
-    /// number, and one in the part, must be ones that there are.
+    /// number, and one in the part, must be valid.
     pub fn swap_part(&mut self, pid: Pid, part: &mut Part)
         requires low { 1 ≤ pid.0 }
         requires high { pid.0 ≤ length self.old }
@@ -144,8 +144,8 @@ impl ProcTable {
         }
     }
 
-    /// Exchanges the point and the answer of the process that a number has, as `swap_part` does, for
-    /// less. The number must be one that there is.
+    /// Exchanges the point and the answer of the process that a number has, as `swap_part` does,
+    /// for less. The number must be valid.
     pub fn swap_answer(&mut self, pid: Pid, answer: &mut Answer)
         requires low { 1 ≤ pid.0 }
         requires high { pid.0 ≤ length self.old }
@@ -161,7 +161,7 @@ impl ProcTable {
     }
 
     /// Exchanges all that is pending at the process that a number has; nothing happens where it has
-    /// none. The number must be one that there is.
+    /// none. The number must be valid.
     pub fn swap_pending(&mut self, pid: Pid, pending: &mut Pending)
         requires low { 1 ≤ pid.0 }
         requires high { pid.0 ≤ length self.old }
@@ -186,7 +186,8 @@ impl ProcTable {
     }
 }
 
-/// Exchanges a part of a process, which is counted, and counts it as the child of its parent then.
+/// Exchanges a part of a process that is counted, and then counts it as the child of its new
+/// parent.
 fn exchange_part(boxed: &mut BoxedProc, part: &mut Part, children: &mut ChildCounts)
     requires place { HasPlace part.old }
     requires counted { HasOne (Some boxed.old.parent) children.old }

@@ -25,7 +25,7 @@ keeps before = hand (before.parts - 1) before.put before.taken
 abbrev pub begins : Hand
 begins = hand 1 [] []
 
--- two hands in one: their parts are added up, and what they put and took stands one behind the other
+-- two hands in one: their parts are added up, and what the other put and took follows what the one did
 abbrev pub both : Hand → Hand → Hand
 both one other = hand (one.parts + other.parts) (one.put ++ other.put) (one.taken ++ other.taken)
 
@@ -57,7 +57,8 @@ pub record Balanced (items : List ℕ) (hands : List Hand) : Type 0 where
 abbrev pub IsWhole : Hand → List ℕ → Type 0
 IsWhole held items = held.parts ≡ 65536 → (weight : ℕ → ℕ) → sum_by weight held.put ≡ sum_by weight held.taken + sum_by weight items
 
--- what a take tells: the number that was taken, and that a hand with all parts has taken no more than it has put
+-- what a take answers: the number that was taken, and that a hand with all parts has taken no more
+-- than it has put
 abbrev pub Taken : Hand → ℕ → Hand → Type 0
 Taken before number after =
     (after ≡ takes before number)

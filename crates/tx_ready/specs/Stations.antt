@@ -7,12 +7,12 @@ use Rattle.tx_ready.specs.declared.rule.Hand.{Hand}
 use Rattle.tx_ready.specs.declared.tally.Tally.{Tally}
 use Rattle.tx_ready.specs.Numbers.{times, HasCounted}
 
--- a station: which queue it stands at, and what it has put and taken
+-- a station: which queue it is at, and what it has put and taken
 pub record Standing : Type 0 where
   pub queue : TableId
   pub hand : Hand
 
--- it stands at this queue
+-- it is at this queue
 abbrev pub IsStationOf : ReadyQueue → Standing → Type 0
 IsStationOf ready station = station.queue ≡ ready.ring.table.shared.table_id
 

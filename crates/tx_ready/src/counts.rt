@@ -20,7 +20,7 @@ impl Counts {
         }
     }
 
-    /// Counts a number once more.
+    /// Counts a number one more time.
     pub fn count(&mut self, number: u16)
         requires number { IsNumber number }
         requires room { slice_index self.old.by_place (number - 1) + 1 < 2 ^ 64 }
@@ -30,7 +30,7 @@ impl Counts {
         self.by_place[usize::from(number) - 1] += 1;
     }
 
-    /// Counts what another has counted, too.
+    /// Adds the counts of another.
     pub fn add(&mut self, other: &Counts)
         requires room { (place : ℕ) → place < 256 →
             slice_index self.old.by_place place + slice_index other.now.by_place place < 2 ^ 64 }

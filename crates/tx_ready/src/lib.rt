@@ -1,18 +1,13 @@
-//! The ready queue: the numbers of the processes that may run, which the worker threads of a kernel
-//! share.
+//! The ready queue: the numbers of the processes that may run, shared by a kernel's worker threads.
 //!
-//! Each worker has a station at the queue. It takes a number, gives that process a turn elsewhere,
-//! and puts the number back; its station counts both. When all stations are one again the queue is
-//! closed, and then each number was put as often as it was taken and is left.
+//! Each worker has a `Station`: it takes a number, gives that process a turn elsewhere, and puts
+//! the number back. The station counts both; its invariant is that the counts are those of what its
+//! pass put and took. `another` splits a station off, `merge` joins two. The one with all parts may
+//! `close` the queue: that empties it and makes the `Tally`.
 //!
-//! `ReadyQueue` holds process numbers, over `RuledArrayQueue` of `crossbeam_queue`. Its rule speaks
-//! of what the queue holds and of what each pass has put and taken: however the numbers are
-//! weighed, what all put is what all took and what the queue holds (`Balanced`). Each call owes
-//! that its one step keeps the rule, so nothing is said of the other threads. A `Station` is a
-//! worker's pass with two tables of counts; that the counts are those of what the pass put and took
-//! is the type's invariant. `another` splits a station off, `merge` puts two together, and the one
-//! that has all parts again knows what all did: `close` empties the queue by it and makes the
-//! `Tally`.
+//! `ReadyQueue` is over `RuledArrayQueue` of `crossbeam_queue`. Its rule (`Balanced`): however the
+//! numbers are weighed, what all passes put is what all took and what the queue holds. Each call
+//! keeps the rule in its one step, so nothing is said of other threads.
 #![tactic(auto)]
 
 mod counts;

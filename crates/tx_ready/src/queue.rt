@@ -71,7 +71,7 @@ impl ReadyQueue {
         }
     }
 
-    /// Puts a number into the queue. Where it is full that is tried again, until it is taken.
+    /// Puts a number into the queue. Tries again while the queue is full.
     pub fn give<R: Wait>(&self, rt: &R, station: &mut Station, pid: Pid)
         requires queue { IsStationOf self.now station.old }
         requires number { IsNumber pid.0 }
@@ -85,8 +85,9 @@ impl ReadyQueue {
         station.pushed.count(pid.0);
     }
 
-    /// Takes the oldest number from the queue. None where the queue was empty at a moment of the call:
-    /// then the station is as it was, and if it has all parts, all that was put has been taken.
+    /// Takes the oldest number from the queue. None where the queue was empty at a moment of the
+    /// call: the station is then as it was, and if it has all parts, all that was put has been
+    /// taken.
     pub fn take<R: Wait>(&self, rt: &R, station: &mut Station) -> Option<Pid>
         requires queue { IsStationOf self.now station.old }
         requires room { length station.old.hand.taken < 2 ^ 63 }
@@ -141,7 +142,7 @@ impl ReadyQueue {
         }
     }
 
-    /// Puts a number into the ring. Where that is refused it is tried again.
+    /// Puts a number into the ring. Tries again where that is refused.
     fn push<R: Wait>(&self, rt: &R, pass: &mut Pass<u16, Hand>, number: u16)
         requires queue { IsPassOf self.now.ring pass.old }
         requires part { 0 < (view pass.old).parts }

@@ -6,7 +6,7 @@ use crossbeam_queue::protocol::{Join, Lesson, Outcome, Protocol, Split};
 use std::collections::LinkedList;
 
 /// What a station has put and taken, and its parts of the right to know the whole. No value of it
-/// is made: it is what the clauses speak of.
+/// is made: only clauses use it.
 pub struct Hand {
     /// Its parts, of 65,536 in all. A hand with all of them has put and taken what was put and taken.
     pub parts: u64,
@@ -28,7 +28,7 @@ impl Protocol<u16, Hand> for Even {
     ghost first = { hand 65536 [] [] };
 }
 
-/// One part is cut off for another hand, and comes back with what that one put and took.
+/// One part is split off for another hand, and comes back with what that one put and took.
 pub struct Cut;
 
 impl Split<Hand> for Cut {

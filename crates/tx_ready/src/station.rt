@@ -5,7 +5,7 @@ use crossbeam_queue::Pass;
 use std::marker::Model;
 
 /// A worker's station at the ready queue: by it the worker puts and takes numbers, and it counts
-/// them. In the clauses it is which queue it stands at, and its hand.
+/// them. Clauses see which queue it is at, and its hand.
 #[derive(Drop)]
 pub struct Station {
     pub(crate) pass: Pass<u16, Hand>,

@@ -1,4 +1,4 @@
--- What the footprint of a step is told by: the marks, and what the transaction holds where the step commits it.
+-- What the footprint of a step depends on: the marks, and what the transaction holds if the step commits it.
 use Rattle.std.specs.Prelude.{◌≡◌, ℕ, Bool, true, false, not, ◌==◌, List, Option, Some, None, if◌then◌else◌, length, map}
 use Rattle.tx_base.specs.Slots.{slot_at}
 use Rattle.tx_base.specs.declared.marks.Mark.{Mark}
@@ -20,7 +20,7 @@ use Rattle.tx_model.specs.State.{Object, Sending as TheSending, has_object}
 use Rattle.tx_reserve.specs.Objects.{is_in, is_small}
 use Rattle.tx_reserve.specs.declared.objects.Objects.{Objects}
 
--- the table of the marks, for the process numbers that there are
+-- the table of the marks, for the process numbers in range
 abbrev pub table_of : Parts → List (Option Mark) → Table
 table_of parts marks = record { width = length parts.procs; marks = slot_at marks }
 
@@ -34,7 +34,7 @@ pub record IsPlaced (actor : Actor) : Type 0 where
   pub number : IsPid (sizes_of actor.parts.now) actor.pid.0
   pub there : slot_at actor.parts.now.procs actor.pid.0 ≡ Some actor.proc.now
 
--- the step is made inside of the transaction that the marks say
+-- the step is made inside the transaction that the marks say
 abbrev pub IsInside : Actor → List (Option Mark) → Type 0
 IsInside actor marks = inside_of actor.inside ≡ inside_by (table_at actor marks) (slot_at marks actor.pid.0)
 
@@ -44,11 +44,11 @@ ends_part p (call.Exit status) = not (p == 1)
 ends_part p call.SysXend = true
 ends_part p call = false
 
--- whether a delivery of the signal now ends who makes the step
+-- whether a delivery of the signal now ends the process that makes the step
 abbrev pub ends_actor : Actor → Signo → Bool
 ends_actor actor signo = ends_by (inside_of actor.inside) signo.0 (me_of actor) (delivered_value signo.0 (me_of actor))
 
--- held sends are given where the process is a member and no other member's part is open, and they are the transaction's
+-- held sends are given exactly where the process is a member and no other member's part is open, and they are the transaction's
 abbrev pub GoesBy : Table → ℕ → Option Mark → Option (List Sending) → (ℕ → List TheSending) → Type 0
 GoesBy t p None None held = Unit {0}
 GoesBy t p None (Some sends) held = ⊥
@@ -58,23 +58,23 @@ GoesBy t p (Some mark) (Some sends) held = (others_open t mark.starter.0 p t.wid
 abbrev pub GoesWith : Actor → List (Option Mark) → Option (List Sending) → (ℕ → List TheSending) → Type 0
 GoesWith actor marks last held = GoesBy (table_at actor marks) actor.pid.0 (slot_at marks actor.pid.0) last held
 
--- that is so if the step ends its process's part: another step commits nothing, and what is given then does not matter
+-- this holds if the step ends its process's part: any other step commits nothing, and what is given then does not matter
 abbrev pub GoesIf : Bool → Actor → List (Option Mark) → Option (List Sending) → (ℕ → List TheSending) → Type 0
 GoesIf ends actor marks last held = ends ≡ true → GoesWith actor marks last held
 
--- the same of a call, and of a delivery
+-- the same for a call, and for a delivery
 abbrev pub GoesWithCall : Actor → List (Option Mark) → Call → Option (List Sending) → (ℕ → List TheSending) → Type 0
 GoesWithCall actor marks call last held = GoesIf (ends_part actor.pid.0 call) actor marks last held
 
 abbrev pub GoesWithDelivery : Actor → List (Option Mark) → Signo → Option (List Sending) → (ℕ → List TheSending) → Type 0
 GoesWithDelivery actor marks signo last held = GoesIf (ends_actor actor signo) actor marks last held
 
--- this is what the transaction holds that a process of this mark is a member of
+-- this is what the transaction holds in which a process of this mark is a member
 abbrev pub HoldsBy : Option Mark → List Sending → (ℕ → List TheSending) → Type 0
 HoldsBy None sends held = Unit {0}
 HoldsBy (Some mark) sends held = held mark.starter.0 ≡ map sending_of sends
 
--- this is what the transaction holds that the process of the step is a member of
+-- this is what the transaction of the step's process holds
 abbrev pub HoldsFor : List (Option Mark) → Step → List Sending → (ℕ → List TheSending) → Type 0
 HoldsFor marks (Calls p call) sends held = HoldsBy (slot_at marks p.0) sends held
 HoldsFor marks (Deliver p signo) sends held = HoldsBy (slot_at marks p.0) sends held
@@ -86,7 +86,7 @@ IsStepOf p (Calls q call) = p ≡ q
 IsStepOf p (Deliver q signo) = p ≡ q
 IsStepOf p (KernelAbort starter) = ⊥
 
--- the set has these objects, those of numbers that there may not be left out
+-- the set has these objects, without those of numbers out of range
 pub record IsSetOf (objects : Objects) (these : List Object) : Type 0 where
   pub each : (o : Object) → is_in objects o ≡ (if is_small o then has_object o these else false)
 

@@ -1,4 +1,4 @@
--- Footprints name objects of numbers that there are; and tables of owners are told by the owners in them.
+-- Footprints name objects of numbers in range; and equal owners make equal tables.
 use Rattle.std.specs.Prelude.{◌≡◌, ◌≤◌, ℕ, Bool, true, false, List, Option, length, nat_lt}
 use Rattle.tx_base.specs.declared.steps.Step.{Step}
 use Rattle.tx_laws.specs.WellFormed.{IsWellFormed}
@@ -12,24 +12,23 @@ use Rattle.tx_base.specs.declared.names.Pid.{Pid}
 use Rattle.tx_reserve.specs.Objects.{is_small}
 use Rattle.tx_reserve.specs.Reservations.{owner_of}
 
--- whether the object's number is one that there is: a process 1 to the width, a description 0 to 63, a pipe 0 to 31
+-- whether the object's number is in range: a process 1 to the width, a description 0 to 63, a pipe 0 to 31
 abbrev pub is_within : ℕ → Object → Bool
 is_within width (Proc n) = is_between width n
 is_within width (Desc n) = nat_lt n 64
 is_within width (Pipe n) = nat_lt n 32
 is_within width (Held s) = false
 
--- in a well-formed state, the footprint of a step of a process that runs, which chooses no bad number, has objects of
--- numbers that there are alone
+-- in a well-formed state, the footprint of a step of a process that runs, which chooses no bad number, has only objects of numbers in range
 abbrev pub FootprintIsWithin : Type 0
 FootprintIsWithin =
     (t : Table) (step : Step) (S : State) (o : Object) → IsWellFormed S → is_running (S.procs (process_of step)) ≡ true → has_bad_number S.width step ≡ false
     → has_object o (footprint t step S) ≡ true → is_within S.width o ≡ true
 
--- such an object is one that a set may have, where there are at most 256 process numbers
+-- a set may have such an object, where there are at most 256 process numbers
 abbrev pub WithinIsSmall : Type 0
 WithinIsSmall = (width : ℕ) (o : Object) → width ≤ 256 → is_within width o ≡ true → is_small o ≡ true
 
--- two tables of owners are the same where each object has the same owner in both
+-- two tables of owners are the same if each object has the same owner in both
 abbrev pub OwnersAreTold : Type 0
 OwnersAreTold = (one other : List (Option Pid)) → length one ≡ 352 → length other ≡ 352 → ((o : Object) → owner_of one o ≡ owner_of other o) → one ≡ other

@@ -1,4 +1,4 @@
--- Sets of objects, as the bits of words: a place for each number that a process, a description or a pipe may have.
+-- Sets of objects, as the bits of words: a place for each number of a process, a description or a pipe.
 use Rattle.std.specs.Prelude.{◌≡◌, ℕ, ◌+◌, ◌-◌, ◌/◌, ◌%◌, ◌<◌, Bool, true, false, List, if◌then◌else◌, ◌==◌, nat_lt, slice_index, sum}
 use Rattle.std.specs.Int.{bit_at}
 use Rattle.tx_model.specs.State.{Object, Proc, Desc, Pipe, Held, is_between, same_object}
@@ -34,7 +34,7 @@ has_place words place = bit_at (slice_index words (place / 32)) (place % 32) == 
 unfoldable pub is_in : Objects → Object → Bool
 is_in objects o = if is_small o then has_place objects.words (place_of o) else false
 
--- what falls with each object that is taken out of the set
+-- what decreases with each object that is taken out of the set
 abbrev pub weight : Objects → ℕ
 weight objects = sum objects.words
 

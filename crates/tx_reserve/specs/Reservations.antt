@@ -18,7 +18,7 @@ unless own None = None
 unless None (Some s) = Some s
 unless (Some p) (Some s) = if s == p then None else Some s
 
--- the lesser of two numbers, of which either may be missing
+-- the lesser of two numbers, either of which may be missing
 abbrev pub lesser_of : Option ℕ → Option ℕ → Option ℕ
 lesser_of None b = b
 lesser_of (Some a) None = Some a
@@ -31,7 +31,7 @@ pub record IsLeastOf (these : Object → Bool) (number : Object → Option ℕ) 
   pub has : number at ≡ Some s
   pub least : (o : Object) (t : ℕ) → these o ≡ true → number o ≡ Some t → s ≤ t
 
--- the least number that one of these objects has; nothing where none has one
+-- the least number that one of these objects has; none if none has one
 abbrev pub IsLeast : (Object → Bool) → (Object → Option ℕ) → Option ℕ → Type 0
 IsLeast these number None = (o : Object) → these o ≡ true → number o ≡ None
 IsLeast these number (Some s) = IsLeastOf these number s

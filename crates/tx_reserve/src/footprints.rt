@@ -25,9 +25,9 @@ use tx_kernel::{Actor, sendable};
 /// Puts the footprint of a call into an empty set: the objects that it reserves, if its process is a
 /// member.
 ///
-/// `last` is what its transaction holds. It matters only where the call ends the part of its process,
-/// and is given there exactly where that is a member and no other member's part is open, so that the
-/// call commits. With another call it may be anything. It takes no memory.
+/// `last` is what its transaction holds. It matters only if the call ends the part of its process,
+/// and must then be given exactly if that is a member and no other member's part is open, so that
+/// the call commits. For any other call it may be anything. It takes no memory.
 pub fn footprint_of_call(
     actor: &Actor,
     marks: &Slots<Mark>,
@@ -47,8 +47,8 @@ pub fn footprint_of_call(
     add_call(actor, marks, last, call, set);
 }
 
-/// Puts the footprint of a delivery of the signal into an empty set; `last` as at a call, where the
-/// delivery now ends its process. It takes no memory.
+/// Puts the footprint of a delivery of the signal into an empty set; `last` is as for a call, if
+/// the delivery now ends its process. It takes no memory.
 pub fn footprint_of_delivery(
     actor: &Actor,
     marks: &Slots<Mark>,
@@ -68,7 +68,7 @@ pub fn footprint_of_delivery(
     add_delivery(actor, marks, last, signo, set);
 }
 
-/// Puts what a call names beside its process into a set.
+/// Puts what a call names besides its process into a set.
 fn add_call(
     actor: &Actor,
     marks: &Slots<Mark>,
@@ -102,7 +102,7 @@ fn add_call(
     }
 }
 
-/// Puts what a delivery names beside its process into a set: nothing, unless it ends the process.
+/// Puts what a delivery names besides its process into a set: nothing, unless it ends the process.
 fn add_delivery(
     actor: &Actor,
     marks: &Slots<Mark>,
@@ -131,7 +131,7 @@ fn add_fork(actor: &Actor, child: Pid, set: &mut Objects)
     add_open(&actor.proc.descriptors, set);
 }
 
-/// Puts what an exit names into a set: nothing where process 1 makes it.
+/// Puts what an exit names into a set: nothing if process 1 makes it.
 fn add_exit(actor: &Actor, marks: &Slots<Mark>, last: Option<&[Sending]>, set: &mut Objects)
     requires actor { IsPlaced actor.now }
     requires inside { IsInside actor.now marks.now }
@@ -183,8 +183,8 @@ fn add_dup2(actor: &Actor, fd: i64, other: i64, set: &mut Objects)
     add_desc_and_pipe(actor, description(actor, other), set);
 }
 
-/// Puts the target of a kill or a sigqueue into a set, where they are of a good process number and a
-/// signal that may be sent.
+/// Puts the target of a kill or a sigqueue into a set, if its process number is good and the signal
+/// may be sent.
 fn add_send(actor: &Actor, marks: &Slots<Mark>, target: i64, signo: i64, set: &mut Objects)
     requires actor { IsPlaced actor.now }
     requires inside { IsInside actor.now marks.now }
@@ -202,7 +202,7 @@ fn add_send(actor: &Actor, marks: &Slots<Mark>, target: i64, signo: i64, set: &m
 }
 
 /// Puts what the end of the process names into a set: what its descriptors name, its children, its
-/// parent, and what is posted where it commits.
+/// parent, and what is posted if it commits.
 fn add_ending(actor: &Actor, marks: &Slots<Mark>, last: Option<&[Sending]>, set: &mut Objects)
     requires actor { IsPlaced actor.now }
     requires inside { IsInside actor.now marks.now }
@@ -218,7 +218,7 @@ fn add_ending(actor: &Actor, marks: &Slots<Mark>, last: Option<&[Sending]>, set:
     add_last(actor, marks, last, set);
 }
 
-/// Puts the parent that is told at once of the end of the process into a set.
+/// Puts the parent into a set if it is notified of the process's end at once.
 fn add_parent(actor: &Actor, marks: &Slots<Mark>, set: &mut Objects)
     requires { IsInside actor.now marks.now }
     ensures { Adds set.old set.new
@@ -233,8 +233,8 @@ fn add_parent(actor: &Actor, marks: &Slots<Mark>, set: &mut Objects)
     add_target(actor, marks, parent, set);
 }
 
-/// Puts the targets of what is held into a set, where the end of the process commits it, with the
-/// parent that is told then.
+/// Puts the targets of what is held into a set, if the end of the process commits it, with the
+/// parent if it is notified then.
 fn add_last(actor: &Actor, marks: &Slots<Mark>, last: Option<&[Sending]>, set: &mut Objects)
     requires { IsInside actor.now marks.now }
     ensures { (held : ℕ → List TheSending) →
@@ -251,7 +251,7 @@ fn add_last(actor: &Actor, marks: &Slots<Mark>, last: Option<&[Sending]>, set: &
     add_told(actor, marks, set);
 }
 
-/// Puts the parent that is told of the end of the process when that commits into a set.
+/// Puts the parent into a set if it is notified of the process's end when that commits.
 fn add_told(actor: &Actor, marks: &Slots<Mark>, set: &mut Objects)
     requires { IsInside actor.now marks.now }
     ensures { Adds set.old set.new
@@ -268,7 +268,7 @@ fn add_told(actor: &Actor, marks: &Slots<Mark>, set: &mut Objects)
     }
 }
 
-/// Puts the targets of what is held into a set, where a sys_xend commits it.
+/// Puts the targets of what is held into a set, if a sys_xend commits it.
 fn add_commit(actor: &Actor, marks: &Slots<Mark>, last: Option<&[Sending]>, set: &mut Objects)
     ensures { (held : ℕ → List TheSending) →
         GoesWith actor.now marks.now (option_copied last.entry) held →
@@ -345,7 +345,7 @@ fn add_open_and_pipes(actor: &Actor, set: &mut Objects)
     }
 }
 
-/// Puts the children of the process into a set; those of process 1 are nobody's concern.
+/// Puts the children of the process into a set; those of process 1 do not matter.
 fn add_children(actor: &Actor, set: &mut Objects)
     requires few { length actor.now.parts.now.procs ≤ 256 }
     requires number { actor.now.pid.0 ≤ length actor.now.parts.now.procs }
@@ -364,7 +364,7 @@ fn add_children(actor: &Actor, set: &mut Objects)
     }
 }
 
-/// Puts a process into a set, where it is a child of the process.
+/// Puts a process into a set, if it is a child of the process.
 fn add_child(actor: &Actor, child: Pid, set: &mut Objects)
     ensures { (held : ℕ → List TheSending) →
         Adds set.old set.new
@@ -422,7 +422,7 @@ fn is_for_later(actor: &Actor, target: Pid) -> bool
     }
 }
 
-/// Whether the target is the live starter of a transaction that the process is no member of.
+/// Whether the target is the live starter of a transaction that the process is not in.
 fn is_other_starter(actor: &Actor, marks: &Slots<Mark>, target: Pid) -> bool
     ensures { result ≡ is_other_starter (table_at actor.now marks.now) actor.now.pid.0 target.0 }
 {

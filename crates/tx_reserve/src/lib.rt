@@ -1,30 +1,22 @@
 #![tactic(auto)]
-//! What the steps of transactions reserve: sets of objects, who owns each, and the footprint of a
-//! step. Nothing but `Reservations::new` takes memory, and each call costs the objects of its set and
-//! never the size of a table, but for `footprint`.
+//! What the steps of transactions reserve: sets of objects, who owns each, and a step's footprint.
+//! Only `Reservations::new` takes memory. A call costs the objects of its set, never the size of a
+//! table, but for `footprint`.
 //!
-//! `Objects` is a set of processes 1 to 256, descriptions 0 to 63 and pipes 0 to 31: a bit for
-//! each, 44 bytes that are copied. Contracts say of each object whether it is in (`is_in`); what
-//! none may have (`is_small`) never is. `pop` takes one out and falls by a measure (`weight`), so
-//! callers loop `while let Some(object) = set.pop()`; `pop_proc` goes over the processes alone.
+//! # What it has
 //!
-//! `Reservations` has for each object the starter of the transaction that reserved it (`owner_of`).
-//! `conflict` is the least owner but the caller's own among a set's objects, which is whom a busy
-//! step names, and `other_owner` is the same of one object; `take` makes them the starter's and
-//! says which were nobody's; `release` makes them nobody's. There is a place for each object that a
-//! set may have, on narrow machines too, so none of these asks anything of the set.
-//!
-//! `footprint_of_call` and `footprint_of_delivery` are the rows of the footprint, as the
-//! definitions have them, of an `Actor` of tx_kernel with the marks. They put it into an empty set
-//! of the caller's, so that it is made where it is used. What a committing step posts is known from
-//! what its transaction holds, which the caller gives. Only a step that ends its process's part may
-//! commit, so only there does it matter what is given: the held sends exactly where no other member's
-//! part is open (`GoesWithCall`, `GoesWithDelivery`). A caller need not look at the other members for
-//! any other step. Calls that name nothing but their process cost one bit.
-//!
-//! `footprint` is the footprint of any step, also of one whose process is missing or has ended. The
-//! machine does not ask it: it has found the process, and knows from what the step is to the
-//! transactions whether it commits, where `footprint` looks at each mark (`is_other_open`).
+//! - `Objects`: a set of processes, descriptions and pipes, a bit for each, 44 bytes that are
+//!   copied. A number out of range (`is_small`) is never in. `pop` takes one out and falls by a
+//!   measure (`weight`), so callers can loop.
+//! - `Reservations`: each object's owner (`owner_of`). `conflict` and `other_owner` find the least
+//!   other one, `take` answers which had none, `release` leaves none. There is a place for each
+//!   object of a set, on narrow machines too, so sets need no premise.
+//! - `footprint_of_call`, `footprint_of_delivery`: the definitions' rows, put into the caller's
+//!   empty set. The held sends that the caller gives matter only where a step ends its process's
+//!   part: they must be there exactly if no other part is open (`GoesWithCall`,
+//!   `GoesWithDelivery`).
+//! - `footprint`: of any step, of a missing or ended process too. It looks at each mark
+//!   (`is_other_open`).
 
 mod footprints;
 mod laws;

@@ -23,7 +23,7 @@ pub enum Object {
 }
 
 impl Object {
-    /// The place of the object's bit: 0 to 351. Nothing where no object has such a number.
+    /// The place of the object's bit: 0 to 351. None if no object has such a number.
     pub(crate) fn place(self) -> Option<usize>
         ensures none { IfNone result (is_small (object_of self) ≡ false) }
         ensures small { IfSome result (λ place. is_small (object_of self) ≡ true) }
@@ -77,7 +77,7 @@ impl Objects {
         }
     }
 
-    /// Whether the object is in the set; one of a number that none may have never is.
+    /// Whether the object is in the set; one of a number out of range never is.
     pub fn has(&self, object: Object) -> bool
         ensures { result ≡ is_in self.now (object_of object) }
     {
@@ -120,7 +120,7 @@ impl Objects {
         Objects { words }
     }
 
-    /// Takes an object out of the set, and answers it; nothing where the set is empty.
+    /// Takes an object out of the set, and answers it; none if the set is empty.
     pub fn pop(&mut self) -> Option<Object>
         ensures none { IfNone result ((o : TheObject) → is_in self.old o ≡ false) }
         ensures same { IfNone result (self.new ≡ self.old) }
@@ -130,7 +130,7 @@ impl Objects {
         Some(Object::at(place))
     }
 
-    /// Takes a process out of the set, and answers its number; nothing where no process is in it.
+    /// Takes a process out of the set, and answers its number; none if no process is in it.
     pub fn pop_proc(&mut self) -> Option<Pid>
         ensures none { IfNone result ((n : ℕ) → is_in self.old (Proc n) ≡ false) }
         ensures same { IfNone result (self.new ≡ self.old) }
@@ -140,7 +140,7 @@ impl Objects {
         Some(Pid(place as u16 + 1))
     }
 
-    /// The first place of the first so many words whose bit is set.
+    /// The first place whose bit is set of the first `count` words.
     fn first_place(&self, count: usize) -> Option<usize>
         requires { count ≤ 11 }
         ensures none { IfNone result
@@ -157,7 +157,7 @@ impl Objects {
         None
     }
 
-    /// Clears the first bit that is set in the first so many words, and answers its place.
+    /// Clears the first bit that is set of the first `count` words, and answers its place.
     fn take_place(&mut self, count: usize) -> Option<usize>
         requires { count ≤ 11 }
         ensures none { IfNone result

@@ -22,8 +22,8 @@ pub(crate) fn others_open(parts: &Parts, marks: &Slots<Mark>, starter: Pid, pid:
     is_any
 }
 
-/// Whether a number is that of another member of the starter's transaction than this process, and its part
-/// is open.
+/// Whether a number is that of a member of the starter's transaction other than this process, and
+/// its part is open.
 pub fn is_other_open(marks: &Slots<Mark>, starter: Pid, pid: Pid, other: Pid) -> bool
     ensures { result ≡ (if other.0 == pid.0 then false
         else is_open_of starter.0 (slot_at marks.now other.0)) }

@@ -31,7 +31,7 @@ impl Model for Reservations {
 }
 
 impl Reservations {
-    /// Nobody owns anything. The room for all owners is made here.
+    /// Nobody owns anything. All owners get their room here.
     ///
     /// NoMemory where a growth is refused.
     pub fn new(alloc: Global) -> Result<Reservations, NoMemory>
@@ -51,7 +51,7 @@ impl Reservations {
         let _places = &self.places;
     }
 
-    /// The starter of the transaction that reserved the object; nothing where none did.
+    /// The starter of the transaction that reserved the object, if one did.
     pub fn owner(&self, object: Object) -> Option<Pid>
         ensures { option_map number_of result ≡ owner_of self.now (object_of object) }
     {
@@ -59,7 +59,7 @@ impl Reservations {
         self.places[place]
     }
 
-    /// Gives the object this owner; an object of a number that none may have stays nobody's.
+    /// Gives the object this owner; an object of a number out of range stays nobody's.
     fn set_owner(&mut self, object: Object, owner: Option<Pid>)
         ensures { (o : TheObject) →
             owner_of self.new o ≡ (if same_object o (object_of object)
@@ -71,8 +71,8 @@ impl Reservations {
         }
     }
 
-    /// The least starter but this own one that owns one of the objects: the one that a busy step
-    /// names. Nothing where nobody else owns one.
+    /// The least other starter that owns one of the objects: the one that a busy step names. None
+    /// if nobody else owns one.
     pub fn conflict(&self, objects: &Objects, own: Option<Pid>) -> Option<Pid>
         ensures { IsLeast (is_in objects.now)
             (λ o. unless (option_map number_of own) (owner_of self.now o))
@@ -86,7 +86,8 @@ impl Reservations {
         least
     }
 
-    /// The object's owner, unless it is this own one: who a busy step names that names this object alone.
+    /// The object's owner, unless it is this one: the one that a busy step names if it names only
+    /// this object.
     pub fn other_owner(&self, object: Object, own: Option<Pid>) -> Option<Pid>
         ensures { option_map number_of result
             ≡ unless (option_map number_of own) (owner_of self.now (object_of object)) }
@@ -131,7 +132,7 @@ impl Reservations {
     }
 }
 
-/// The lesser of two numbers, of which either may be missing.
+/// The lesser of two numbers, either of which may be missing.
 fn lesser(a: Option<Pid>, b: Option<Pid>) -> Option<Pid>
     ensures { option_map number_of result
         ≡ lesser_of (option_map number_of a) (option_map number_of b) }

@@ -1,4 +1,4 @@
-//! The footprint of any step, whether or not its process is there.
+//! The footprint of any step, whether or not its process exists.
 ghost use Rattle.std.specs.Option.{option_copied};
 ghost use Rattle.std.specs.Prelude.{◌≡◌, ◌≤◌, ℕ, List, None, false, length, IfSome, IsNone};
 ghost use Rattle.tx_base.specs.Slots.{slot_at};
@@ -18,11 +18,11 @@ use tx_base::{Mark, Pid, Sending, Slots, Step};
 use tx_change::Parts;
 use tx_kernel::{Actor, Inside};
 
-/// The footprint of any step: the objects that it reserves, if its process is a member. A process that
-/// is missing names itself alone, and the kernel's abort names nothing.
+/// The footprint of any step: the objects that it reserves, if its process is a member. A missing
+/// process names only itself, and the kernel's abort names nothing.
 ///
-/// `held` is what the transaction holds that the process is a member of; with a process that is in none
-/// it may be anything. It takes no memory. Own rule.
+/// `held` is what the transaction of the process holds; for a process in none it may be anything.
+/// It takes no memory. Own rule.
 pub fn footprint(parts: &Parts, marks: &Slots<Mark>, held: &[Sending], step: &Step) -> Objects
     requires { IsWhole parts.now }
     ensures { (all : ℕ → List TheSending) → HoldsFor marks.now step.now held.now all →
@@ -61,7 +61,7 @@ fn put_step(
     }
 }
 
-/// Puts the footprint of a step of this actor into an empty set; `last` as at a call.
+/// Puts the footprint of a step of this actor into an empty set; `last` is as for a call.
 fn put_row(
     actor: &Actor,
     marks: &Slots<Mark>,
@@ -104,7 +104,7 @@ fn actor_at<'a>(parts: &'a Parts, marks: &'a Slots<Mark>, pid: Pid) -> Option<Ac
     })
 }
 
-/// The transaction that a process is a member of, if it is one. No row asks how much that holds.
+/// The transaction that a process is a member of, if it is one. No row asks how much it holds.
 fn inside_at<'a>(marks: &'a Slots<Mark>, pid: Pid) -> Option<Inside<'a>>
     ensures { (parts : TheParts) →
         inside_of result ≡ inside_by (table_of parts marks.now) (slot_at marks.now pid.0) }
@@ -118,8 +118,8 @@ fn inside_at<'a>(marks: &'a Slots<Mark>, pid: Pid) -> Option<Inside<'a>>
     })
 }
 
-/// What a step commits that ends the part of this process: all that is held, where it is a member and no
-/// other member's part is open.
+/// What a step that ends the part of this process commits: all that is held, if the process is a
+/// member and no other member's part is open.
 fn last_by<'a>(
     parts: &Parts,
     marks: &Slots<Mark>,

@@ -1,4 +1,5 @@
--- What a session is asked for by lines that are no steps, how that is spelled, and what the lines are answered, which moves the session.
+-- What a session is asked for by lines that are no steps, how that is spelled, what the lines are
+-- answered, and how that moves the session.
 use Rattle.std.specs.Fmt.{decimal}
 use Rattle.std.specs.Prelude.{◌≢◌, ℕ, ◌<◌, ◌≤◌, ◌^◌, Bool, List, ◌∷◌, ◌++◌, codes, false, true, ◌≡◌, ◌⊎◌, Option, None, Some, IsTrue, if◌then◌else◌, length, nat_eq, option_map, string_bytes}
 use Rattle.tx_base.specs.Slots.{with_slot}
@@ -81,7 +82,7 @@ FitsAsk version (asks.HoldsDesc number) = number.0 < 2 ^ 8
 FitsAsk version (asks.Name process name) = (version ≡ Three) × ((1 ≤ process.0) × (process.0 ≤ 256)) × (is_name name.now ≡ true)
 FitsAsk version ask = Unit {0}
 
--- nothing is asked for by a line that is spelled so
+-- a line that is spelled so asks for nothing
 abbrev pub IsNoAsk : TextVersion → List ℕ → Type 0
 IsNoAsk version line = (ask : Ask) → FitsAsk version ask → line ≢ ask_text ask
 
@@ -96,7 +97,7 @@ IsOfWords asks.Cut = Unit {0}
 IsOfWords asks.Help = Unit {0}
 IsOfWords ask = ⊥
 
--- it is one of those that have numbers behind their first word
+-- it is one of those that have numbers after their first word
 abbrev pub IsOfNumbers : Ask → Type 0
 IsOfNumbers (asks.StepsFrom first) = Unit {0}
 IsOfNumbers (asks.StepsBetween first last) = Unit {0}
@@ -112,12 +113,12 @@ abbrev pub IsOfName : Ask → Type 0
 IsOfName (asks.Name process name) = Unit {0}
 IsOfName ask = ⊥
 
--- steps are to be let go of
+-- steps must be dropped
 abbrev pub lets_go : Ask → Bool
 lets_go asks.Cut = true
 lets_go ask = false
 
--- at the end a step is made: its reply is told, and it is recorded where it was accepted
+-- at the end a step is made: its reply is reported, and it is recorded where it was accepted
 pub record MakesStep (form : Form) (start : State) (p : Place) (step : Step) (text : List ℕ) (q : Place) : Type 0 where
   pub at_end : p.at ≡ length p.history
   pub told : SaysReply form (length q.history) (answer (view start p.history) step) text
@@ -173,7 +174,7 @@ IsPage says (answers.Page page) = says page.now
 IsPage says other = ⊥
 
 module _ (start : State) (h : List Accepted) (own : List (Option Step)) where
-  -- why a step would be refused, and what the child for which it waits was refused last
+  -- why a step would be refused, and the last refused step of the child that it waits for
   abbrev pub why : Step → Answer
   why step =
       let V = view start h in
@@ -185,7 +186,8 @@ module _ (start : State) (h : List Accepted) (own : List (Option Step)) where
   last_why None = answers.NothingRefused
   last_why (Some step) = why step
 
-  -- the answer to what is asked for after the history h, where those steps were refused, and the place to which that leads. A cut lets go of no step yet
+  -- the answer to what is asked for after the history h, where those steps were refused, and the
+  -- place to which that leads. A cut drops no step yet
   abbrev pub IsAnswer : Place → Option Step → Ask → Answer → Place → Type 0
   IsAnswer p refused (asks.Walk command) found q = Walks start p command found q
   IsAnswer p refused asks.GotoEnd found q = Walks start p (commands.Goto (length p.history)) found q
@@ -209,7 +211,7 @@ module _ (start : State) (h : List Accepted) (own : List (Option Step)) where
   IsAnswer p refused asks.Help found q = IsPage (λ page. IsTrue (is_page page)) found × (q ≡ p)
   IsAnswer p refused (asks.HelpOn word) found q = IsPage (HelpsOn word.now) found × (q ≡ p)
 
--- a cut lets go of the steps after the position
+-- a cut drops the steps after the position
 abbrev pub left_by : Bool → Place → Place
 left_by goes p = if goes then record { history = first_steps p.at p.history; at = p.at } else p
 
@@ -220,7 +222,8 @@ pub record Kept : Type 0 where
   pub own : List (Option Step)
   pub names : List NameAt
 
--- what is asked for is done, and its answer is printed where it led, with the names of processes there, before steps are let go of and names are kept
+-- what is asked for is done, and its answer is printed where it led, with the names of processes
+-- there, before steps are dropped and names are kept
 pub record AnswersAskIn (form : Form) (o : Origin) (p : Place) (before : Kept) (ask : Ask) (text : List ℕ) (q : Place) (behind : Kept) : Type 0 where
   pub found : Answer
   pub there : Place
@@ -242,7 +245,7 @@ pub record IsAskLine (o : Origin) (words : List ℕ) (ask : Ask) : Type 0 where
   pub fits : FitsAsk o.version ask
   pub spelled : words ≡ ask_text ask
 
--- it is neither: what is wrong with the line is told, and nothing changes
+-- it is neither: what is wrong with the line is reported, and nothing changes
 pub record AnswersNeither (form : Form) (o : Origin) (p : Place) (line words text : List ℕ) (q : Place) : Type 0 where
   pub no_step : IsNoStep (grammar_of o.version) words
   pub no_ask : IsNoAsk o.version words
@@ -261,7 +264,8 @@ kept_refused step before = record before { refused = Some step; own = own_with (
 abbrev pub kept_accepted : Step → Kept → Kept
 kept_accepted step before = record before { own = own_with (forked step) None (own_with (maker step) None before.own) }
 
--- what is kept after a step that was to be made, which was refused where it led nowhere; one that was not to be made changes nothing
+-- what is kept after a step that had to be made, and was refused where it led nowhere; any other
+-- changes nothing
 abbrev pub kept_by : Place → Step → Place → Kept → Kept
 kept_by p step q before =
     if nat_eq p.at (length p.history)
@@ -275,7 +279,7 @@ AnswersWords form o p before line words text q after =
     ⊎ (((ask : Ask) × IsAskLine o words ask × AnswersAskIn form o p before ask text q after)
     ⊎ (AnswersNeither form o p line words text q × (after ≡ before)))
 
--- the position to which what is asked for leads at the furthest
+-- the furthest position to which what is asked for leads
 abbrev pub position_asked : Place → Ask → ℕ
 position_asked p (asks.Walk command) = position_after p.history p.at command
 position_asked p asks.GotoEnd = position_after p.history p.at (commands.Goto (length p.history))
@@ -283,7 +287,8 @@ position_asked p (asks.When piece) = 0
 position_asked p (asks.Next piece) = length p.history
 position_asked p ask = p.at
 
--- a position may be left on the way to what is asked for: it is between the old one and that one, or, where two are compared, among the old one and both
+-- the position may stop on the way to what is asked for: it is between the old one and that one,
+-- or, where two are compared, among the old one and both
 abbrev pub IsOnWay : Place → Ask → ℕ → Type 0
 IsOnWay p (asks.Diff from to) at = IsAmong p.at (compared_at p.history from to p.at from) (compared_at p.history from to p.at to) at
 IsOnWay p ask at = IsBetween p.at at (position_asked p ask)
@@ -293,6 +298,6 @@ pub record StopsShort (p : Place) (ask : Ask) (q : Place) : Type 0 where
   pub history : q.history ≡ p.history
   pub between : IsOnWay p ask q.at
 
--- nothing changed, but the position at most, where the line asks for another one
+-- nothing changed but perhaps the position, where the line asks for another one
 abbrev pub StopsShortOf : Origin → Place → List ℕ → Place → Type 0
 StopsShortOf o p words q = (q ≡ p) ⊎ ((ask : Ask) × IsAskLine o words ask × StopsShort p ask q)

@@ -1,4 +1,4 @@
--- What the child was refused last for which a process waits.
+-- The last refused step of the child that a process waits for.
 use Rattle.std.specs.Prelude.{ℕ, List, [], ◌∷◌, ◌++◌, Option, Some, None, codes, option_map}
 use Rattle.json.specs.Token.{Token}
 use Rattle.tx_base.specs.Slots.{slot_at}
@@ -21,7 +21,7 @@ use Rattle.tx_shell.specs.Reasons.{fact_lines}
 use Rattle.tx_shell.specs.declared.questions.attempts.Attempt.{Attempt}
 use Rattle.tx_text.specs.Replies.{named_reply_text}
 
--- the child for whose end a step waits that would get that reply
+-- the child whose end a step waits for that would get that reply
 abbrev pub awaited_child : Step → Reply → Option ℕ
 awaited_child (steps.Call p (calls.Waitpid child nohang)) (No Wait) = pid_of 256 child
 awaited_child step reply = None
@@ -31,7 +31,7 @@ abbrev pub attempt_of : View → List (Option Step) → Option ℕ → Option At
 attempt_of V own None = None
 attempt_of V own (Some q) = option_map (λ (step : Step). record { step = step; reply = answer V step }) (slot_at own q)
 
--- what a step would be answered that is not refused
+-- the answer to a step that would not be refused
 abbrev pub answered_text : Reply → List ℕ
 answered_text reply = codes ", and would be answered " ++ (named_reply_text reply ++ codes " now\n")
 

@@ -29,12 +29,12 @@ IsSame shown from to = (at : ℕ) → from ≤ at → at ≤ to → shown at ≡
 abbrev pub AllShow : (ℕ → List ℕ) → List ℕ → ℕ → ℕ → Type 0
 AllShow shown lines from to = (at : ℕ) → from ≤ at → at ≤ to → shown at ≡ lines
 
--- at that position they are other ones
+-- at that position they are others
 pub record ShowsOthers (shown : ℕ → List ℕ) (lines others : List ℕ) (at : ℕ) : Type 0 where
   pub shown_there : others ≡ shown at
   pub other : others ≢ lines
 
--- going back, others are met at that position, and none behind it
+-- going back, others are met at that position, and none after it
 pub record MeetsBack (shown : ℕ → List ℕ) (lines others : List ℕ) (at to : ℕ) : Type 0 where
   pub before : at + 1 ≤ to
   pub same : AllShow shown lines (at + 1) to
@@ -52,14 +52,15 @@ pub record IsChange (shown : ℕ → List ℕ) (number : ℕ) (change : Change) 
   pub after : string_bytes change.after ≡ shown number
   pub changed : shown number ≢ shown (number - 1)
 
--- the position goes back to the one behind the last step that changed them, or to the start where none did
+-- the position goes back to the one after the last step that changed them, or to the start where
+-- none did
 pub record FindsLast (shown : ℕ → List ℕ) (p : Place) (found : Option Change) (q : Place) : Type 0 where
   pub history : q.history ≡ p.history
   pub back : q.at ≤ p.at
   pub same : IsSame shown q.at p.at
   pub outcome : MatchOption found (q.at ≡ 0) (λ change. (1 ≤ q.at) × IsChange shown q.at change)
 
--- it goes on to the one behind the next step that changes them
+-- it goes on to the one after the next step that changes them
 pub record ChangesNext (shown : ℕ → List ℕ) (p : Place) (change : Change) (q : Place) : Type 0 where
   pub later : p.at + 1 ≤ q.at
   pub inside : q.at ≤ length p.history
@@ -75,13 +76,13 @@ pub record FindsNext (shown : ℕ → List ℕ) (p : Place) (found : Option Chan
   pub history : q.history ≡ p.history
   pub outcome : MatchOption found (StaysSame shown p q) (λ change. ChangesNext shown p change q)
 
--- the step of that number is told, and by which lines they differ
+-- the step of that number is reported, and by which lines they differ
 pub record TellsStep (names : Names) (history : List Accepted) (number : ℕ) (before after text : List ℕ) : Type 0 where
   pub entry : Accepted
   pub made : slice_get (reverse history) (number - 1) ≡ Some entry
   pub told : text ≡ codes "at " ++ (decimal number ++ (codes ": " ++ (step_made_text names entry.step ++ 10 ∷ differing before after)))
 
--- what was found is told: the step directly before the position, or that there is none
+-- what was found is reported: the step directly before the position, or that there is none
 abbrev pub TellsFound : Names → List Accepted → ℕ → Option Change → List ℕ → Type 0
 TellsFound names history at found text =
     MatchOption found (text ≡ codes "at " ++ (decimal at ++ codes ": no change\n")) (λ change. TellsStep names history at (string_bytes change.before) (string_bytes change.after) text)

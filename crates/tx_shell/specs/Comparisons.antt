@@ -17,7 +17,7 @@ differing_between start history from to = if are_there history from to then Some
 abbrev pub compared_at : List Accepted → ℕ → ℕ → ℕ → ℕ → ℕ
 compared_at history from to old at = if are_there history from to then at else old
 
--- a position lies between the least and the greatest of three, or is one of these
+-- a position is between the least and the greatest of three, or is one of these
 pub record IsAmong (one two three at : ℕ) : Type 0 where
   pub least : min one (min two three) ≤ at
   pub greatest : at ≤ max one (max two three)

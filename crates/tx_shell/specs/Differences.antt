@@ -22,12 +22,13 @@ abbrev pub less_line : List ℕ → List (List ℕ) → List (List ℕ)
 less_line line [] = []
 less_line line (other ∷ others) = if bytes_eq other line then others else other ∷ less_line line others
 
--- the lines of the one text that the other has not, in their order. A line that the other has so many times stands for so many of the one
+-- the lines of the one text that the other lacks, in their order. A line that the other has so many
+-- times is matched with so many of the one
 unfoldable pub left_over : List (List ℕ) → List (List ℕ) → List (List ℕ)
 left_over [] others = []
 left_over (line ∷ more) others = if has_line line others then left_over more (less_line line others) else line ∷ left_over more others
 
--- lines behind a mark, each with its end
+-- lines after a mark, each with its end
 abbrev pub marked : List ℕ → List (List ℕ) → List ℕ
 marked mark found = each_text (λ line. mark ++ (line ++ 10 ∷ [])) found
 
@@ -43,7 +44,8 @@ piece_differing before after piece = differing (piece_text piece before) (piece_
 abbrev pub views_differing : View → View → List ℕ
 views_differing before after = each_text (piece_differing before after) (state_pieces before.table.width)
 
--- how a state would differ that an abort of the live transaction of process s by the kernel would leave, where there is one
+-- how the state would differ after the kernel's abort of the live transaction of process s, where
+-- there is one
 abbrev pub differing_without : State → List Accepted → ℕ → Option (List ℕ)
 differing_without start h s =
     if is_live (view start h).table s then Some (views_differing (view start h) (view_with start h (KernelAbort (record { 0 = s })))) else None

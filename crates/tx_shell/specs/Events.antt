@@ -1,4 +1,4 @@
--- What comes and goes at a terminal, and which of it is a talk.
+-- What comes and goes at a terminal, and which of it is a session.
 use Rattle.std.specs.Prelude.{◌≡◌, ◌≢◌, ◌⊎◌, ℕ, ◌+◌, ◌≤◌, Bool, List, [], ◌∷◌, ◌++◌, length, take, Option, Some, None, Result, Ok, Err, if◌then◌else◌}
 use Rattle.tx_plain.specs.MeantLines.{behind}
 use Rattle.tx_shell.specs.Cuts.{front_line}
@@ -25,7 +25,8 @@ abbrev pub Logs : Option (List Event) → List Event → Option (List Event) →
 Logs None events log = log ≡ None
 Logs (Some before) events log = log ≡ Some (before ++ events)
 
--- the lines that came are those of the bytes to come, the first one first, and the end came where there are no more; behind a failure nothing is known
+-- the lines that came are those of the bytes to come, the first one first, and the end came where
+-- there are no more; after a failure nothing is known
 abbrev pub ComeFrom : List ℕ → List Event → Option (List ℕ) → Type 0
 ComeFrom bytes [] coming = coming ≡ Some bytes
 ComeFrom bytes (Line line ∷ events) coming = (bytes ≢ []) × (line ≡ front_line bytes) × ComeFrom (behind bytes) events coming
@@ -37,7 +38,7 @@ abbrev pub Comes : Option (List ℕ) → List Event → Option (List ℕ) → Ty
 Comes None events coming = Unit {0}
 Comes (Some bytes) events coming = ComeFrom bytes events coming
 
--- the texts that went are behind what was shown, one behind the other
+-- the texts that went are appended to what was shown, one after another
 abbrev pub GoTo : List ℕ → List Event → Option (List ℕ) → Type 0
 GoTo bytes [] shown = shown ≡ Some bytes
 GoTo bytes (Line line ∷ events) shown = GoTo bytes events shown
@@ -63,7 +64,7 @@ unprompted prompts written = if prompts then None else written
 abbrev pub traffic_between : Option (List ℕ) → Option (List ℕ) → Bool → Traffic
 traffic_between left written prompts = record { log = None; coming = left; shown = unprompted prompts written }
 
--- each line has its answer directly behind it, and leads from one standing to another
+-- each line has its answer directly after it, and leads from one standing to another
 unfoldable pub Talks : Standing → List Event → Standing → Type 0
 Talks s [] t = t ≡ s
 Talks s (Line line ∷ Text text ∷ events) t = (r : Standing) × Answers s line text r × Talks r events t
@@ -86,8 +87,9 @@ lines_among (End ∷ events) = lines_among events
 lines_among (Text text ∷ events) = lines_among events
 lines_among (Failure ∷ events) = lines_among events
 
--- how a talk ends after so many lines, by what comes of it: with the end of the lines, or one that asks for that; with a failure while a line is awaited,
--- or while an answer is shown; with a line for which memory was refused; or after the most lines
+-- how a session ends after so many lines, by its outcome: with the end of the lines, or one that
+-- asks for that; with a failure while a line is awaited, or while an answer is shown; with a line
+-- for which memory was refused; or after the most lines
 abbrev pub EndsBy : Standing → ℕ → List Event → Standing → Result (Unit {0}) TalkFault → Type 0
 EndsBy s lines events t (Ok _) = (t ≡ s) × ((events ≡ End ∷ []) ⊎ ((line : List ℕ) × (events ≡ Line line ∷ []) × IsQuit s line))
 EndsBy s lines events t (Err faults.Reader) = (t ≡ s) × (events ≡ Failure ∷ [])
@@ -95,7 +97,7 @@ EndsBy s lines events t (Err faults.Writer) = IsCutOff s events t
 EndsBy s lines events t (Err faults.NoMemory) = (line : List ℕ) × (events ≡ Line line ∷ []) × Stops s line t
 EndsBy s lines events t (Err faults.TooMany) = (t ≡ s) × (events ≡ []) × (lines ≡ LINES)
 
--- a whole talk: lines and their answers, and its end
+-- a whole session: lines and their answers, and its end
 pub record IsTalk (s t : Standing) (before after : Traffic) (result : Result (Unit {0}) TalkFault) : Type 0 where
   pub answered : List Event
   pub last : List Event

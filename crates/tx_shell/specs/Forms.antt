@@ -59,7 +59,7 @@ abbrev pub TellsIn : Form → List ℕ → List ℕ → Type 0
 TellsIn Text line text = TellsOf line text
 TellsIn Json line text = (told : List ℕ) × IsSessionTold line told × IsLineOf (error_answer told) text
 
--- a step that was found to change a piece stands directly before the position
+-- a step that was found to change a piece is directly before the position
 abbrev pub IsPlaced : ℕ → Answer → Type 0
 IsPlaced at (answers.Change found) = IfSome found (λ change. 1 ≤ at)
 IsPlaced at answer = Unit {0}

@@ -1,4 +1,4 @@
--- Who has a pipe or a description open, as it is told.
+-- Who has a pipe or a description open, as it is reported.
 use Rattle.std.specs.Fmt.{decimal}
 use Rattle.std.specs.Prelude.{ℕ, List, [], ◌∷◌, ◌++◌, Option, Some, None, codes, is_some, option_map, if◌then◌else◌}
 use Rattle.json.specs.Token.{Token}

@@ -11,23 +11,24 @@ use Rattle.tx_shell.specs.Origins.{header_in, Origin}
 use Rattle.tx_shell.specs.Places.{Place}
 use Rattle.tx_text.specs.Replies.{named_reply_text}
 
--- the line of the position, where that one is it
+-- the line of the position, where it is that one
 abbrev pub mark_at : ℕ → ℕ → List ℕ
 mark_at at number = if nat_eq at number then position_text at else []
 
--- the line of a step, as the report of a run has it, with the name of an error: its number, its worker, which is 1, the step, and its reply; and the
--- position behind it. Both where its number lies between those two
+-- the line of a step, as the report of a run has it, with the name of an error: its number, its
+-- worker, which is 1, the step, and its reply; and the position after it. Both where its number is
+-- between those two
 abbrev pub listed_between : ℕ → ℕ → ℕ → ℕ → Accepted → List ℕ
 listed_between at first last number e =
     if nat_le first number && nat_le number last
     then decimal number ++ (codes " w1 " ++ (step_text e.step ++ (codes " : " ++ (named_reply_text e.reply ++ 10 ∷ mark_at at number)))) else []
 
--- what is said of some things by their numbers, of which the first is that one
+-- the lines of some things by their numbers, from that one on
 abbrev pub by_number : {A B : Type 0} → (ℕ → A → List B) → ℕ → List A → List B
 by_number say number [] = []
 by_number say number (x ∷ xs) = say number x ++ by_number say (number + 1) xs
 
--- position 0 stands before the first step
+-- position 0 is before the first step
 abbrev pub mark_before : ℕ → ℕ → List ℕ
 mark_before at first = if nat_le first 1 then mark_at at 0 else []
 

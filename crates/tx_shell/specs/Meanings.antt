@@ -14,12 +14,12 @@ use Rattle.tx_shell.specs.declared.lines.meanings.Words.TheVariants.{Lent, Made}
 use Rattle.tx_shell.specs.declared.lines.versions.TextVersion.{TextVersion}
 use Rattle.tx_shell.specs.declared.lines.versions.TextVersion.TheVariants.{One, Two, Three}
 
--- a word, and the step behind it where there is one
+-- a word, and the step after it where there is one
 abbrev pub with_step : List ℕ → Option (List ℕ) → List ℕ
 with_step word None = word
 with_step word (Some step) = word ++ 32 ∷ step
 
--- the first of some things, or another where there is none
+-- the first of some things, or another where there are none
 abbrev pub first_or : {A : Type 0} → A → List A → A
 first_or other [] = other
 first_or other (x ∷ xs) = x

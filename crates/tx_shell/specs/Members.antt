@@ -30,7 +30,7 @@ use Rattle.tx_waits.specs.declared.kinds.Kind.TheVariants.{Processes, Descriptio
 abbrev pub step_tokens : ℕ → Accepted → List Token
 step_tokens number e = entry_answer number 1 (step_text e.step) e.reply
 
--- it, where its number lies between those two
+-- it, where its number is between those two
 abbrev pub tokens_between : ℕ → ℕ → ℕ → Accepted → List Token
 tokens_between first last number e = if nat_le first number && nat_le number last then step_tokens number e else []
 

@@ -62,14 +62,14 @@ is_given_to k q given = is_of k.count (place_of k) q given
 abbrev pub named : NamesThere → Names
 named names = names_at names.session.now.count (place_of names.session.now) (map given_as names.given.now)
 
--- the names that were given, once something was asked for at a position: a name is kept behind the others, and a cut lets go of those that were given
--- after the position
+-- the names that were given, once something was asked for at a position: a name is kept after the
+-- others, and a cut drops those that were given after the position
 abbrev pub names_by : Ask → ℕ → List NameAt → List NameAt
 names_by (asks.Name process name) at given = given ++ (record { position = at; process = process.0; name = name.now }) ∷ []
 names_by asks.Cut at given = filter (λ (one : NameAt). nat_le one.position at) given
 names_by ask at given = given
 
--- a name behind the number of its process, and behind the text of a step that it makes
+-- a name after the number of its process, and after the text of a step that it makes
 abbrev pub behind_number : Option (List ℕ) → List ℕ
 behind_number None = []
 behind_number (Some name) = 32 ∷ name

@@ -1,4 +1,4 @@
--- How a talk begins.
+-- How a session begins.
 use Rattle.std.specs.Prelude.{◌≡◌, ℕ, Bool, true, false, List, [], ◌∷◌, ◌++◌}
 use Rattle.tx_lines.specs.Lines.{most_of}
 use Rattle.tx_lines.specs.Schedule.{FaultsAtHeader, SpellsHeader}
@@ -40,7 +40,7 @@ version_of true version = Three
 version_of false versions.One = One
 version_of false versions.Two = Two
 
--- the text of a line alone
+-- the text of a line on its own
 abbrev pub text_of : List ℕ → List ℕ
 text_of line = line ++ 10 ∷ []
 

@@ -1,4 +1,4 @@
--- What live transactions have reserved, as it is told.
+-- What live transactions have reserved, as it is reported.
 use Rattle.std.specs.Prelude.{ℕ, zero, suc, ◌+◌, Bool, false, true, List, [], ◌∷◌, ◌++◌, codes, if◌then◌else◌}
 use Rattle.std.specs.Fmt.{decimal}
 use Rattle.tx_model.specs.Membership.{is_live}
@@ -9,16 +9,16 @@ use Rattle.tx_waits.specs.declared.kinds.Kind.{Kind}
 use Rattle.tx_waits.specs.declared.kinds.Kind.TheVariants.{Processes, Descriptions, Pipes}
 use Rattle.tx_text.specs.Each.{upto}
 
--- the number of an object, and behind that of a process its name
+-- the number of an object, and after that of a process its name
 abbrev pub number_said : Names → Kind → ℕ → List ℕ
 number_said names kind number = decimal number ++ behind_number (kind_name names kind number)
 
--- numbers as they are said, each after a comma
+-- numbers as they are printed, each after a comma
 abbrev pub more_said : (ℕ → List ℕ) → List ℕ → List ℕ
 more_said say [] = []
 more_said say (number ∷ numbers) = 44 ∷ (say number ++ more_said say numbers)
 
--- numbers as they are said, joined by commas, or `-` for none
+-- numbers as they are printed, joined by commas, or `-` for none
 abbrev pub list_said : (ℕ → List ℕ) → List ℕ → List ℕ
 list_said say [] = codes "-"
 list_said say (number ∷ numbers) = say number ++ more_said say numbers
@@ -39,7 +39,7 @@ abbrev pub owns_one : View → ℕ → Kind → ℕ → Bool
 owns_one V s kind number = V.reserved s (object_in kind number)
 
 module _ (names : Names) (V : View) where
-  -- the numbers of a kind that it has, behind a space and the word for the kind
+  -- the numbers of a kind that it has, after a space and the word for the kind
   abbrev pub owned_text : ℕ → Kind → List ℕ
   owned_text s kind = 32 ∷ (word_of kind ++ list_said (number_said names kind) (listed_below (owns_one V s kind) (limit_of kind)))
 

@@ -1,4 +1,4 @@
--- Where a session stands.
+-- Where a session is.
 use Rattle.std.specs.Prelude.{ℕ, List}
 use Rattle.tx_base.specs.declared.steps.Accepted.{Accepted}
 use Rattle.tx_journal.specs.Entries.{history_of}

@@ -1,4 +1,4 @@
--- Why a step would be refused, as it is told.
+-- Why a step would be refused, as it is reported.
 use Rattle.std.specs.Prelude.{◌≡◌, ℕ, ℤ, List, [], ◌∷◌, ◌++◌, Option, Some, None, codes, map, option_map, if◌then◌else◌, IfSome, IsTrue}
 use Rattle.std.specs.Fmt.{decimal, signed_decimal}
 use Rattle.std.specs.Str.{IsUtf8}
@@ -99,7 +99,8 @@ module _ (names : Names) (S : State) (h : List Accepted) (step : Step) where
   fact_lines Wait = waited_text
   fact_lines why = []
 
--- what there is to tell of a step that would get this reply: what is in its way, and who could end its wait
+-- what is reported of a step that would get this reply: what is in its way, and who could end its
+-- wait
 pub record IsReason (S : State) (h : List Accepted) (step : Step) (reply : Reply) (reason : Reason) : Type 0 where
   pub blockers : map blocked_of reason.blockers.items ≡ blocked_by S h step reply
   pub holders : option_map (λ held. held.items) reason.holders ≡ awaited_by (view S h) step reply

@@ -1,4 +1,4 @@
--- A talk that can be spelled again, as the text of a schedule.
+-- A session that can be spelled again, as the text of a schedule.
 use Rattle.std.specs.Prelude.{◌≤◌, All, length, List}
 use Rattle.tx_base.specs.declared.steps.Accepted.{Accepted}
 use Rattle.tx_lines.specs.Lines.{FitsHeader}
@@ -13,7 +13,7 @@ use Rattle.tx_shell.specs.declared.lines.versions.TextVersion.{TextVersion}
 abbrev pub AllFit : TextVersion → List Accepted → Type 0
 AllFit version h = All (λ (e : Accepted). FitsStepOf (grammar_of version) e.step) h
 
--- a text can hold how the talk began, and each of its steps
+-- a text can hold how the session began, and each of its steps
 pub record IsSpelled (s : Standing) : Type 0 where
   pub begins : FitsHeader (header_in s.origin)
   pub steps : AllFit s.origin.version s.place.history

@@ -1,4 +1,4 @@
--- Where a talk stands, and how a line leads it on.
+-- Where a session is, and how a line leads it on.
 use Rattle.std.specs.Prelude.{◌≡◌, ◌≢◌, ◌⊎◌, ℕ, Bool, false, true, List, [], Option, Some, None, codes, map, replicate}
 use Rattle.tx_shell.specs.Answers.{AnswersWords, Kept, StopsShortOf}
 use Rattle.tx_shell.specs.Forms.{SaysNothing, SaysPosition}
@@ -11,7 +11,8 @@ use Rattle.tx_shell.specs.declared.answers.Interpreter.{Interpreter}
 use Rattle.tx_shell.specs.declared.shell.Shell.{Shell}
 use Rattle.tx_shell.specs.declared.lines.versions.TextVersion.TheVariants.{Three}
 
--- in which form it is answered, how it began, whether a header may still come, where its session stands, and what is kept beside its steps
+-- in which form it is answered, how it began, whether a header may still come, the position of its
+-- steps, and what is kept beside its steps
 pub record Standing : Type 0 where
   pub form : Form
   pub origin : Origin
@@ -35,7 +36,7 @@ at_start = record { history = []; at = 0 }
 abbrev pub nothing_kept : Kept
 nothing_kept = record { refused = None; own = replicate 256 None; names = [] }
 
--- a talk that begins so, and has no header before it any more
+-- a session that begins so, and may have no header any more
 abbrev pub begun_by : Form → Origin → Standing
 begun_by form o = record { form = form; origin = o; is_fresh = false; place = at_start; kept = nothing_kept }
 
@@ -43,7 +44,7 @@ begun_by form o = record { form = form; origin = o; is_fresh = false; place = at
 abbrev pub first_standing : Form → Standing
 first_standing form = record { form = form; origin = record { version = Three; width = 256; count = 2 }; is_fresh = true; place = at_start; kept = nothing_kept }
 
--- a header may come, and is there: the talk begins as it says
+-- a header may come, and is there: the session begins as it says
 pub record Opens (s : Standing) (line text : List ℕ) (t : Standing) : Type 0 where
   pub fresh : s.is_fresh ≡ true
   pub says : SaysOrigin line t.origin
@@ -61,26 +62,27 @@ IsNoHeader s line = (s.is_fresh ≡ false) ⊎ SaysNoOrigin line
 abbrev pub going_on : Standing → Place → Kept → Standing
 going_on s q kept = record { form = s.form; origin = s.origin; is_fresh = false; place = q; kept = kept }
 
--- what ends a talk
+-- what ends a session
 abbrev pub quit_line : List ℕ
 quit_line = codes "quit"
 
--- a line without a word says nothing, and any other as what it means, but for the one that ends the talk
+-- a line without a word says nothing, and any other as what it means, but for the one that ends the
+-- session
 abbrev pub AnswersMeant : Standing → List ℕ → Option (List ℕ) → List ℕ → Standing → Type 0
 AnswersMeant s line None text t = SaysNothing s.form text × (t ≡ s)
 AnswersMeant s line (Some words) text t =
     (words ≢ quit_line) × ((q : Place) × ((kept : Kept) × AnswersWords s.form s.origin s.place s.kept line words text q kept × (t ≡ going_on s q kept)))
 
--- how a line is answered, and where the talk stands then
+-- how a line is answered, and where the session is then
 abbrev pub Answers : Standing → List ℕ → List ℕ → Standing → Type 0
 Answers s line text t = Opens s line text t ⊎ (IsNoHeader s line × AnswersMeant s line (meant_line s.origin.version line) text t)
 
--- the line asks for the end of the talk
+-- the line asks for the end of the session
 pub record IsQuit (s : Standing) (line : List ℕ) : Type 0 where
   pub no_header : IsNoHeader s line
   pub quit : meant_line s.origin.version line ≡ Some quit_line
 
--- memory was refused: nothing changed, but the position at most, where the words ask for another one
+-- memory was refused: nothing changed but perhaps the position, where the words ask for another one
 abbrev pub StopsMeant : Standing → List ℕ → Standing → Type 0
 StopsMeant s words t = (q : Place) × StopsShortOf s.origin s.place words q × (t ≡ record s { place = q })
 

@@ -14,13 +14,14 @@ use Rattle.tx_shell.specs.declared.questions.attempts.Attempt.{Attempt}
 use Rattle.tx_text.specs.Replies.{named_reply_text}
 
 module _ (names : Names) (S : State) (h : List Accepted) (step : Step) (attempt : Option Attempt) where
-  -- of a step that is refused: the facts, what the child for which it waits was refused last, and the page that help has on the refusal
+  -- of a step that is refused: the facts, the last refused step of the child that it waits for, and
+  -- the page that help has on the refusal
   pub record TellsRefusal (why : Refusal) (behind : List ℕ) : Type 0 where
     pub page : List ℕ
     pub helps : HelpsOn (refusal_word why) page
     pub told : behind ≡ fact_lines names S h step why ++ (attempt_text names S h attempt ++ page)
 
-  -- what is told after a reply: nothing where the step is not refused
+  -- what is reported after a reply: nothing where the step is not refused
   abbrev pub TellsReason : Reply → List ℕ → Type 0
   TellsReason (No why) behind = TellsRefusal why behind
   TellsReason reply behind = behind ≡ []

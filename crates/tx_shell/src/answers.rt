@@ -33,7 +33,7 @@ use tx_journal::Session;
 use tx_lines::read_step;
 use tx_script::Form;
 
-/// What answers lines: a session, of which version its lines are, and in which form it is answered.
+/// What answers lines: a session, the version of its lines, and the form of its answers.
 #[derive(Drop)]
 pub struct Interpreter {
     pub form: Form,
@@ -49,8 +49,8 @@ impl Interpreter {
     /// Does what a line says, which means those words, and puts its answer in place of what the text had.
     /// Keeps which step was refused last, and the names of processes.
     ///
-    /// NoMemory where a growth is refused: no step came or went then, and the position is the old one, or
-    /// lies between that and the one that is asked for. The text has nothing to be shown.
+    /// NoMemory where a growth is refused: no step came or went then, and the position is the old
+    /// one, or between that and the one that is asked for. The text has nothing to be shown.
     pub fn answer_words(
         &mut self,
         alloc: Global,
@@ -83,8 +83,8 @@ impl Interpreter {
         Ok(())
     }
 
-    /// Makes a step, puts its reply where it is to stand, and its answer in place of what the text had.
-    /// Keeps the step where it was to be made and was refused. Where it was accepted, lets go of those that
+    /// Makes a step, puts its reply in its place, and its answer in place of what the text had.
+    /// Keeps the step if it had to be made and was refused. Where it was accepted, drops those that
     /// were kept of its process, and of the one that it forks.
     ///
     /// NoMemory where a growth is refused; no step came or went then. The text has nothing to be shown.
@@ -123,11 +123,11 @@ impl Interpreter {
         Ok(())
     }
 
-    /// Does what is asked for, and answers it. A cut lets go of steps once its answer is printed, and a
+    /// Does what is asked for, and answers it. A cut drops steps once its answer is printed, and a
     /// name is kept then.
     ///
-    /// NoMemory where a growth is refused: no step came or went then, and the position lies between the
-    /// old one and that which is asked for.
+    /// NoMemory where a growth is refused: no step came or went then, and the position is between
+    /// the old one and the one that is asked for.
     #[inline(never)] // inlined, each step that is spelled otherwise would reserve its stack
     fn answer_ask(&mut self, alloc: Global, ask: Ask<'_>) -> Result<String, NoMemory>
         ensures answer { IfOk result (λ text.
@@ -174,7 +174,7 @@ pub fn count_steps(session: &Session) -> usize
     session.len()
 }
 
-/// Lets go of the steps after the position, where that is asked for.
+/// Drops the steps after the position, where that is asked for.
 fn leave(session: &mut Session, lets_go: bool)
     ensures place { place_of session.new ≡ left_by lets_go (place_of session.old) }
     ensures boot { SameBoot session.new session.old }

@@ -10,7 +10,7 @@ pub mod versions;
 
 use std::alloc::{AllocError, Global};
 
-/// The text of a line alone.
+/// The text of a line on its own.
 pub fn text_of(alloc: Global, line: &[u8]) -> Result<Vec<u8>, AllocError>
     ensures { IfOk result (λ text. text.items ≡ text_of line.now) }
 {

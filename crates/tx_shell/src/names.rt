@@ -32,8 +32,8 @@ pub struct Names<'a> {
 }
 
 impl<'a> Names<'a> {
-    /// The name of a process: the last one that was given to it. One that was given before its number was
-    /// forked anew is that of another process.
+    /// The name of a process: the last one that was given to it. One that was given before its
+    /// number was forked again is that of another process.
     pub fn of(self, process: u16) -> Option<&'a str>
         ensures { option_map (λ name. name.now) result ≡ named self.entry process }
     {
@@ -148,8 +148,8 @@ pub fn forked_by(step: &Step) -> Option<Pid>
     }
 }
 
-/// Keeps the name that is given, and lets go of those that were given after the position where steps are
-/// let go of.
+/// Keeps the name that is given, and drops those that were given after the position where steps are
+/// dropped.
 ///
 /// NoMemory where a growth is refused; nothing has changed then.
 pub fn keep_names(
@@ -186,7 +186,7 @@ pub fn put_step_made(text: &mut String, names: Names<'_>, step: &Step) -> Result
     write!(text, "{}", Bracketed(names.of_maker(step)))
 }
 
-/// A name behind the number of its process, or nothing.
+/// A name after the number of its process, or nothing.
 #[derive(Clone, Copy)]
 pub struct Behind<'a>(pub Option<&'a str>);
 
@@ -201,7 +201,7 @@ impl fmt::Display for Behind<'_> {
     }
 }
 
-/// A name behind a step that its process makes, or nothing.
+/// A name after a step that its process makes, or nothing.
 #[derive(Clone, Copy)]
 pub struct Bracketed<'a>(pub Option<&'a str>);
 

@@ -1,4 +1,4 @@
-//! What a talk goes on.
+//! What a session runs on.
 ghost use Rattle.std.specs.Prelude.{◌≡◌, ℕ, List, IfOk, IfSome, MatchBool, MatchOption, OnErr, OnOk, Some, string_bytes, true};
 ghost use Rattle.tx_journal.specs.Sessions.{position_of};
 ghost use Rattle.tx_lines.specs.Lines.{step_text, FitsHeader, FitsStep, IsOf};
@@ -21,15 +21,15 @@ use tx_lines::read_step_into;
 use tx_plain::{Room, second_stays_itself};
 use tx_script::Form;
 
-/// A session at a terminal, in which form it is answered, and of which version its lines are.
+/// A session at a terminal, the form of its answers, and the version of its lines.
 #[derive(Drop)]
 pub struct Shell {
     interpreter: Interpreter,
-    /// Whether no line came so far but ones without a word, so that a header may come.
+    /// Whether only lines without a word came so far, so that a header may come.
     is_fresh: bool,
-    /// Where the steps that lines spell are put, one after another, since a step is large.
+    /// Where the step that a line spells is put, since a step is large.
     step: Step,
-    /// Where their replies are put, since a reply is large too.
+    /// Where its reply is put, since a reply is large too.
     reply: Reply,
 }
 
@@ -65,11 +65,12 @@ impl Shell {
         self.interpreter.session.position()
     }
 
-    /// Does what a line says, and puts its answer in place of what the text had. Answers whether the talk
-    /// goes on: a line that asks for its end is not answered. The room is for what the line means.
+    /// Does what a line says, and puts its answer in place of what the text had. Answers whether
+    /// the session goes on: a line that asks for its end is not answered. The room is for what the
+    /// line means.
     ///
-    /// NoMemory where a growth is refused: no step came or went then, and the position is the old one,
-    /// or lies between that and the one that the line asks for. The text has nothing to be shown.
+    /// NoMemory where a growth is refused: no step came or went then, and the position is the old
+    /// one, or between that and the one that the line asks for. The text has nothing to be shown.
     pub fn answer(
         &mut self,
         alloc: Global,
@@ -146,7 +147,7 @@ impl Shell {
         }
     }
 
-    /// Makes the step that a line spells, which stands in its place, and answers it.
+    /// Makes the step that a line spells, which is in its place, and answers it.
     ///
     /// NoMemory where a growth is refused; nothing has changed then.
     fn answer_step(&mut self, alloc: Global, text: &mut String) -> Result<(), NoMemory>
@@ -177,7 +178,7 @@ impl Shell {
         }
     }
 
-    /// Begins anew, as a header says.
+    /// Begins again, as a header says.
     ///
     /// NoMemory where a growth is refused; nothing has changed then.
     #[inline(never)] // as `answer_meaning`
@@ -227,8 +228,8 @@ impl Shell {
 /// How many steps have room from the start: those of the longest text.
 const STEPS_AHEAD: usize = 4_096;
 
-/// Makes room for the steps of a long talk, which the system gives as it is used: lists that grow are
-/// copied. Where it is refused, each step asks for its own.
+/// Makes room for the steps of a long session, which the system gives as it is used: lists that
+/// grow are copied. Where it is refused, each step asks for its own.
 fn reserve_ahead(session: &mut Session)
     ensures { session.new ≡ session.old }
 {

@@ -16,10 +16,10 @@ use tx_plain::Room;
 /// How many lines a session may have.
 const LINES: u64 = 4_294_967_296;
 
-/// Why a talk ended before its lines did. It prints as the fault of a text does.
+/// Why a session ended before its lines did. It prints as the fault of a text does.
 #[derive(Clone, Copy, PartialEq, Eq, Debug, Error)]
 pub enum TalkFault {
-    /// There were more lines than a talk may have.
+    /// There were more lines than a session may have.
     #[error("F3 line 0")]
     TooMany,
     /// No line could be read.
@@ -33,11 +33,11 @@ pub enum TalkFault {
     NoMemory,
 }
 
-/// Answers each line of a terminal before the next one is read, up to the end of the lines or one
-/// that asks for the end.
+/// Answers each line of a terminal before the next one is read, up to the end of the lines or a
+/// line that asks for the end.
 ///
-/// `Reader` and `Writer` where the terminal fails, `NoMemory` where a growth is refused, and `TooMany`
-/// after 4,294,967,296 lines: what came and went up to there is a talk too.
+/// `Reader` and `Writer` where the terminal fails, `NoMemory` where a growth is refused, and
+/// `TooMany` after 4,294,967,296 lines: what came and went up to there is a session too.
 pub fn talk<T: Terminal>(
     alloc: Global,
     shell: &mut Shell,

@@ -47,7 +47,7 @@ abbrev pub post_result : ℕ → PendingView → Result (Unit {0}) Errno
 post_result signo view =
     if is_realtime signo then (if nat_lt (length view.queued) QUEUED then Ok tt else Err TryAgain) else Ok tt
 
--- the answer of a call that gives nothing but an error
+-- the answer of a call that gives nothing or an error
 abbrev pub answer_of : Result (Unit {0}) Errno → ℤ
 answer_of (Ok _) = pos 0
 answer_of (Err errno) = error_answer errno

@@ -116,7 +116,7 @@ pub fn is_ignored(signo: Signo, action: Action) -> bool
     }
 }
 
-/// Whether a delivery of the signal ends a process with this action: the usual one does, but at
+/// Whether a delivery of the signal ends a process with this action: the usual one does, except at
 /// SIGCHLD. POSIX.1-2017, XSH, Signal Actions.
 pub fn is_fatal(signo: Signo, action: Action) -> bool
     ensures { result ≡ is_fatal signo.0 action }

@@ -1,4 +1,4 @@
-//! What the exchanges and the parts of a process come to, as the contracts of functions that do
+//! The laws of exchanges and of the parts of a process, as the contracts of functions that do
 //! nothing.
 ghost use Rattle.std.specs.Prelude.{◌≡◌, ◌<◌, ◌≤◌, ℕ, ℤ, false, List, length, Option, None, Some, slice_index_or, slice_set};
 ghost use Rattle.tx_base.specs.declared.signals.Action.{Action};
@@ -36,7 +36,7 @@ pub fn swap_action_twice()
         ≡ action }
 {}
 
-/// An exchange behind the last entry puts a realtime signal in as a post does, where there is room.
+/// An exchange after the last entry puts in a realtime signal as a post does, where there is room.
 pub fn last_place_posts()
     ensures { (signo : ℕ) (value : ℤ) (target : ℕ) (from : Option Sender)
         (view : PendingView) (me : Process) →
@@ -60,7 +60,7 @@ pub fn post_answers()
 {}
 
 /// What the definitions make of a process with nothing but what is pending, they make of every
-/// process with the same pending: its other parts stay, and count for nothing but the mask.
+/// process with the same pending: its other parts stay, and only the mask counts.
 pub fn pending_suffices()
     ensures taken { (signo : ℕ) (view : PendingView) (me : Process) →
         without_delivered signo (with_pending_part view me)

@@ -1,13 +1,11 @@
 //! The signals of a process: what is pending, what is done about each, and what the caught ones
 //! saved. No call takes memory.
 //!
-//! `Pending` is the set of the standard signals that are pending and the queue of the realtime
-//! ones, of at most sixteen entries; `Actions` what is done about each signal, `Frames` what caught
-//! signals saved, at most four times. `SigSet`, `Action` and `How` of tx_base are given out again.
-//! Contracts see them as the definitions do, and speak of any process that has them: `post` is the
-//! posting rule's part that is about the signal, `take` and `delivered` what a delivery takes and
-//! brings, `discard` what an ignoring action does. An entry of the queue can be exchanged by its
-//! place (`swap_entry`), which is how a post, a delivery and a discarding are taken back.
+//! Contracts see `Pending`, `Actions` and `Frames` as the definitions do, and hold of any process
+//! that has them: `post` is the part of the posting rule that is about the signal, `take` and
+//! `delivered` are what a delivery takes and brings, `discard` is what an ignoring action does.
+//! `swap_entry` exchanges an entry of the queue by its place, which takes back a post, a delivery
+//! or a discard. `SigSet`, `Action` and `How` are re-exported from tx_base.
 #![tactic(auto)]
 
 mod actions;

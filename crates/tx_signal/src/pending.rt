@@ -107,9 +107,9 @@ impl Pending {
         }
     }
 
-    /// Takes one occurrence of the signal, the first: it is no more pending, and the result is its
-    /// value, 0 for a standard one. Where the signal is not pending, nothing is changed and nothing
-    /// is the result. POSIX.1-2017, XSH, Signal Generation and Delivery.
+    /// Takes one occurrence of the signal, the first: it is no longer pending, and the result is
+    /// its value, 0 for a standard one. Where the signal is not pending, nothing is changed and
+    /// nothing is the result. POSIX.1-2017, XSH, Signal Generation and Delivery.
     pub fn take(&mut self, signo: Signo) -> Option<i64>
         ensures value { (me : Process) →
             result ≡ pending_value signo.0 (with_pending_part self.old me) }
@@ -153,8 +153,8 @@ impl Pending {
         }
     }
 
-    /// Whether a delivery of the signal has to wait: the mask blocks it, or it is a realtime one
-    /// and one of a lower number is pending that the mask does not block. POSIX.1-2017, XSH, Signal
+    /// Whether a delivery of the signal must wait: the mask blocks it, or it is a realtime one and
+    /// one of a lower number is pending that the mask does not block. POSIX.1-2017, XSH, Signal
     /// Generation and Delivery.
     pub fn is_blocked(&self, signo: Signo, mask: SigSet) -> bool
         ensures { (me : Process) →
@@ -204,7 +204,7 @@ impl Pending {
         first_place(self.queued.as_slice(), signo)
     }
 
-    /// The place behind the last entry of the queue, where a post puts one more. Own rule.
+    /// The place after the last entry of the queue, where a post puts one more. Own rule.
     pub fn last_place(&self) -> usize
         ensures place { result ≡ length self.now.queued }
         ensures last { (entry : Entry) → length self.now.queued < QUEUED →

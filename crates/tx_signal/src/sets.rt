@@ -61,7 +61,7 @@ pub fn is_known(signo: Signo) -> bool
     matches!(signo.0, 1..=3 | 6 | 9..=10 | 12..=15 | 17 | 32..=39)
 }
 
-/// The signal that a program computed, where there is such a one. Own rule.
+/// The signal that a program computed, where there is one. Own rule.
 pub fn known(number: i64) -> Option<Signo>
     ensures number { option_map number_of result ≡ known_signal number }
     ensures high { IfSome result (λ signo. signo.0 < 40) }

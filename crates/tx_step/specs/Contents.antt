@@ -1,4 +1,4 @@
--- What is so of every content that steps lead to.
+-- What holds for every content that steps lead to.
 use Rattle.std.specs.Prelude.{◌≡◌, ℕ, ◌≤◌, [], None}
 use Rattle.tx_base.specs.Slots.{slot_at}
 use Rattle.tx_kernel.specs.Actors.{IsWhole}
@@ -11,7 +11,7 @@ use Rattle.tx_model.specs.State.{boot_state}
 use Rattle.tx_model.specs.View.{view}
 use Rattle.tx_txn.specs.Content.{IsKept}
 
--- what is so of every content that steps lead to
+-- what holds for every content that steps lead to
 pub record IsContent (k : Content) : Type 0 where
   pub shaped : IsShaped k
   pub kept : IsKept (content_of k)
@@ -26,6 +26,6 @@ IsIdle k = (s : ℕ) → slot_at k.txns s ≡ None
 abbrev pub ContentsAreWhole : Type 0
 ContentsAreWhole = (k : Content) → IsContent k → IsWhole k.parts
 
--- what a kernel keeps as it is booted is such a content: its tables fit together, it is one of the laws, and it has the view of no step
+-- a booted kernel has such a content: its tables fit together, it is one of the laws, and it has the view of no step
 abbrev pub BootedIsContent : Type 0
 BootedIsContent = (k : Content) (width count : ℕ) → 1 ≤ count → count ≤ width → IsShaped k → IsKept (content_of k) → view_of k ≡ view (boot_state width count) [] → IsContent k

@@ -1,4 +1,4 @@
--- Why a step is refused before it is asked who is in its way.
+-- Why a step is refused before it is asked whether anybody is in its way.
 use Rattle.std.specs.Prelude.{◌≡◌, ◌&&◌, ℕ, Bool, not, if◌then◌else◌, Option, Some, None}
 use Rattle.std.specs.Option.{option_or}
 use Rattle.tx_base.specs.declared.marks.Mark.{Mark}
@@ -10,7 +10,7 @@ use Rattle.tx_model.specs.Words.{busy, has_bad_number, has_number_in_use, is_sto
 use Rattle.tx_model.specs.SignalSets.{kill_signo}
 use Rattle.tx_model.specs.View.{View, event_on, has_pending, starter_in_way, present}
 
--- why a step of process p is refused before it is asked who is in its way, the first reason that there is
+-- why a step of process p is refused before anybody is in its way: the first reason
 abbrev pub early_refusal : View → ℕ → Step → Option Refusal
 early_refusal V p step =
     if not (is_there V p) then Some NoProcess else
@@ -21,7 +21,7 @@ early_refusal V p step =
     if is_parked (V.table.marks p) then Some Parked else
     if is_stopped_by_kill (present V) p step then Some KillPending else None
 
--- the refusal is this, or else that somebody is in the way
+-- the refusal is this one, else that somebody is in the way
 abbrev pub RefusalIsEarly : Type 0
 RefusalIsEarly = (V : View) (p : ℕ) (step : Step) → refusal V p step ≡ option_or (early_refusal V p step) (busy (starter_in_way V (event_on V step)))
 

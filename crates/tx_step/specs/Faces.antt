@@ -27,18 +27,18 @@ queued_at (Some face) = face.queued
 abbrev pub posted_to : TheSending → Face → Face
 posted_to m face = record face { queued = queued_after m (Some (face_as face)) face.queued }
 
--- what a step itself hands out to be held
+-- what a step hands out to be held
 abbrev pub sent_at_commit : Sends → List TheSending
 sent_at_commit Nothing = []
 sent_at_commit (AtOnce m) = []
 sent_at_commit (AtCommit m) = sending_of m ∷ []
 
--- what a step sends at once, then what is held, and last what it hands out itself
+-- what a step sends at once, what is held, and last what it hands out
 abbrev pub sent : Sends → List Sending → List TheSending
 sent first held = sent_at_once first ++ (map sending_of held ++ sent_at_commit first)
 
--- the first of these sends to process s that is answered otherwise at the one face than at the other, one send after another: each
--- has its own count of what is queued
+-- the first of these sends to process s that is answered differently at the two faces, one send after another, each face with its own count
+-- of what is queued
 unfoldable pub faces_difference : ℕ → List TheSending → Option TheFace → ℕ → Option TheFace → ℕ → Option TwoAnswers
 faces_difference s [] one first other second = None
 faces_difference s (m ∷ ms) one first other second =
@@ -48,7 +48,7 @@ faces_difference s (m ∷ ms) one first other second =
     else Some (answered_twice m (answer_at m one first) (answer_at m other second)))
     else faces_difference s ms one first other second
 
--- the first of these sends to s that is answered otherwise now than after an abort
+-- the first of these sends to s that is answered differently now than after an abort
 abbrev pub difference : ℕ → List TheSending → Faces → Option TwoAnswers
 difference s ms faces =
     faces_difference s ms (option_map face_as faces.present) (queued_at faces.present) (Some (face_as faces.kept)) faces.kept.queued
@@ -62,7 +62,7 @@ starter_difference s ms x kept =
 abbrev pub starter_differs : ℕ → List TheSending → Option Process → Kept → Bool
 starter_differs s ms x kept = is_some (starter_difference s ms x kept)
 
--- whether one of these sends is for s
+-- whether one of these sends goes to s
 unfoldable pub is_target : ℕ → List TheSending → Bool
 is_target s [] = false
 is_target s (m ∷ ms) = if m.target == s then true else is_target s ms

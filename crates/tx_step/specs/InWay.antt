@@ -17,13 +17,13 @@ abbrev pub starter_in : Option Mark → Option ℕ
 starter_in None = None
 starter_in (Some m) = Some m.starter.0
 
--- the event is made by a member of the own transaction, if there is one, else by a member of none; what it holds is that one's
+-- if the process is in a transaction, the event is made by a member of it and what it holds is that transaction's, else by a member of none
 pub record IsOfMember (k : Content) (own : Option ℕ) (event : Event) : Type 0 where
   pub member : own ≡ starter_in (slot_at k.marks (actor event))
   pub holds : (s : ℕ) → has_object (Held s) (objects event (now_of k)) ≡ true → own ≡ Some s
 
--- whether the transaction of s in this slot is another than the own one, and one of these sends to s is answered otherwise now than
--- after its abort
+-- whether this slot has a transaction of s other than the step's own, and one of these sends to s is answered differently now than after
+-- its abort
 abbrev pub two_answers_in : Option ℕ → List Sending → ℕ → Option Process → Option BoxedTxn → Bool
 two_answers_in own ms s x None = false
 two_answers_in own ms s x (Some boxed) = if is_owner s own then false else starter_differs s ms x boxed.txn.value.kept

@@ -10,12 +10,12 @@ use Rattle.tx_model.specs.Answer.{IsAccepted, is_bad_choice}
 use Rattle.tx_model.specs.Events.{Event, reply_of}
 use Rattle.tx_model.specs.State.{State}
 
--- the rule refuses the event for this reason, or lets it be made
+-- the rule refuses the event for this reason, or accepts it
 abbrev pub TellsRule : Event → State → Option Refusal → Type 0
 TellsRule ev S (Some why) = (reply_of ev S ≡ No why) × (why ≢ NoMemory)
 TellsRule ev S None = IsAccepted (reply_of ev S)
 
--- why the event was not made: for want of memory where its rule lets it be made, else for the rule's reason
+-- why the event was not made: want of memory if its rule accepts it, else the rule's reason
 abbrev pub IsWhyNot : Event → State → Refusal → Type 0
 IsWhyNot ev S why = (why ≡ NoMemory) × IsAccepted (reply_of ev S) ⊎ (reply_of ev S ≡ No why) × (why ≢ NoMemory)
 

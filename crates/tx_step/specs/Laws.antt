@@ -1,4 +1,4 @@
--- The laws that steps stand on.
+-- The laws that the proofs of steps use.
 use Rattle.tx_step.specs.Contents.{ContentsAreWhole}
 use Rattle.tx_step.specs.Early.{RefusalIsEarly}
 use Rattle.tx_laws.specs.Endings.{EndingsAreAnswered}

@@ -1,4 +1,4 @@
--- The laws that early refusals and ways stand on.
+-- The laws that the proofs of early refusals and ways use.
 use Rattle.tx_laws.specs.Endings.{DeliveryIsTold, ExitIsTold, OtherCallIsTold}
 use Rattle.tx_laws.specs.Footprints.{FootprintIsOfEvent}
 use Rattle.tx_laws.specs.LawsOfEvents.{HoldsForItsOwn}

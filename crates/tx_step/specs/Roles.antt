@@ -1,4 +1,4 @@
--- What a step is to the transactions, as the machine has it.
+-- The role of a step, as the machine has it.
 use Rattle.std.specs.Prelude.{ℕ, Bool, Option, Some, None}
 use Rattle.tx_step.specs.declared.roles.StepRole.{StepRole}
 use Rattle.tx_step.specs.declared.roles.StepRole.TheVariants as step

@@ -1,4 +1,4 @@
--- What a step comes to: its reply, the next content, and what takes it back; or why it is refused.
+-- What a step comes to: its reply, the next content and its inverse; or why it is refused.
 use Rattle.std.specs.Prelude.{◌≡◌, ◌≢◌, ◌⊎◌, ◌≤◌, length, ℕ, true, Result, Ok, Err, IsSome}
 use Rattle.tx_base.specs.Slots.{slot_at}
 use Rattle.tx_base.specs.declared.limits.TheConstants.{CONSOLE_BYTES, UNDELIVERED}
@@ -30,8 +30,8 @@ use Rattle.tx_step.specs.declared.answered.Answered.{Answered}
 use Rattle.tx_step.specs.declared.answered.Answered.TheVariants.{Acted, Committed, Aborted}
 use Rattle.tx_txn.specs.Content.{is_named}
 
--- the reply to a step of process p that left this content and this inverse: bytes that it shows are of the memory that the process
--- has now, and what could not be delivered the inverse has
+-- the reply to a step of process p that left this content and this inverse: bytes that it shows are of the memory that the process has now;
+-- what could not be delivered is in the inverse
 abbrev pub replied : Content → ℕ → Inverse → Answered → Reply
 replied k p inverse (Acted outcome) = reply_of (memory_in (process_in (slot_at k.parts.procs p))) outcome
 replied k p inverse Committed = reply.Committed (record { items = missed_of inverse })
@@ -43,8 +43,7 @@ FitsReply (reply.Committed undelivered) = length undelivered.items ≤ UNDELIVER
 FitsReply (reply.Out bytes) = length bytes.items ≤ CONSOLE_BYTES
 FitsReply reply = Unit {0}
 
--- what a step names: the objects of its footprint; the processes that its sends go to; and, where it ends a transaction, what
--- that one reserved
+-- what a step names: the objects of its footprint, the targets of its sends, and, where it ends a transaction, what that reserved
 pub data IsNamedBy (view : View) (step : Step) (object : Object) : Type 0 where
   InFootprint : has_object object (footprint view.table step (present view)) ≡ true → IsNamedBy view step object
   GetsSend : has_object object (processes_of (effect (event_on view step) (present view)).sends) ≡ true → IsNamedBy view step object

@@ -1,4 +1,4 @@
--- A step that nothing refuses before it is made.
+-- A step that nothing refuses before its plan.
 use Rattle.std.specs.Prelude.{◌≡◌, None}
 use Rattle.tx_base.specs.declared.names.Pid.{Pid}
 use Rattle.tx_step.specs.Early.{early_refusal}
@@ -10,7 +10,7 @@ use Rattle.tx_model.specs.View.{event_on, starter_in_way, role_on}
 use Rattle.tx_step.specs.Requests.{step_of}
 use Rattle.tx_step.specs.declared.request.Request.{Request}
 
--- what is requested of the process is refused for no early reason, nobody is in its way, and this is what it is to the transactions
+-- what is requested of the process is refused for no early reason, nobody is in its way, and this is its role
 pub record IsLetThrough (k : Content) (pid : Pid) (request : Request) (role : StepRole) : Type 0 where
   pub early : early_refusal (view_of k) pid.0 (step_of pid request) ≡ None
   pub clear : starter_in_way (view_of k) (event_on (view_of k) (step_of pid request)) ≡ None

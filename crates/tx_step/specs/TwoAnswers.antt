@@ -1,4 +1,4 @@
--- The two answers of the signals of a step: as things are, and after an abort. Own rules.
+-- The two answers to the signals of a step: now, and after an abort. Own rules.
 use Rattle.std.specs.Prelude.{◌≡◌, ℕ, not, List, [], ◌∷◌, ℤ, Option, Some, None, is_some, if◌then◌else◌, ◌==◌}
 use Rattle.std.specs.Ordering.{int_eq}
 use Rattle.tx_base.specs.declared.steps.Step.{Step}
@@ -12,11 +12,11 @@ use Rattle.tx_model.specs.State.{Proc, Sending, has_object}
 use Rattle.tx_model.specs.View.{View, event_on, has_two_answers, present}
 use Rattle.tx_step.specs.declared.differing.TwoAnswers.{TwoAnswers}
 
--- a send with its answer as things are, and that after an abort
+-- a send with its answer now, and that after an abort
 abbrev pub answered_twice : Sending → ℤ → ℤ → TwoAnswers
 answered_twice m x y = record { signo = record { 0 = m.signo }; present = x; after_abort = y }
 
--- the first post to target t that the two lists answer otherwise
+-- the first post to target t that the two lists answer differently
 unfoldable pub first_difference : ℕ → List Sending → List ℤ → List ℤ → Option TwoAnswers
 first_difference t [] xs ys = None
 first_difference t (m ∷ ms) [] ys = None
@@ -25,7 +25,7 @@ first_difference t (m ∷ ms) (x ∷ xs) (y ∷ ys) =
     if m.target == t then (if int_eq x y then first_difference t ms xs ys else Some (answered_twice m x y)) else first_difference t ms xs ys
 
 module _ (V : View) where
-  -- the first post of the event to s that is answered otherwise without the transaction of s
+  -- the first post of the event to s that is answered differently without the transaction of s
   abbrev pub difference_at : Event → ℕ → Option TwoAnswers
   difference_at ev s =
       let f = effect ev (present V) in first_difference s f.sends (send_answers f (present V)) (send_answers f (V.without (just s)))

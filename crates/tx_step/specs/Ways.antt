@@ -1,4 +1,4 @@
--- Who makes a step, and what is held and posted with it, by what the step is to the transactions.
+-- Who makes a step, and what is held and posted with it, by its role.
 use Rattle.std.specs.Prelude.{◌≡◌, ◌++◌, ℕ, List, [], Option, Some, None}
 use Rattle.tx_base.specs.Slots.{slot_at}
 use Rattle.tx_base.specs.declared.names.Pid.{Pid}
@@ -25,7 +25,7 @@ use Rattle.tx_model.specs.State.{Process, Sending, State}
 use Rattle.tx_model.specs.View.{event_on, role_on}
 use Rattle.tx_txn.specs.Marks.{table_at}
 
--- what the step sends at once; and where it commits, what is held then
+-- what the step sends at once, and if it commits, what is held then
 abbrev pub posted_with : Content → StepRole → Sends → List Sending
 posted_with k Outside first = sent_at_once first
 posted_with k (Begins defers) first = sent_at_once first
@@ -46,7 +46,7 @@ pub record IsOwnActor (k : Content) (pid : Pid) (actor : Actor) : Type 0 where
   pub inside : inside_of actor.inside ≡ inside_by (table_at k.marks) (slot_at k.marks pid.0)
   pub counts : CountsHeld actor.inside (held_of k)
 
--- the call names nothing beside its process, and sends nothing, whoever makes it
+-- whoever makes the call, it names only its process and sends nothing
 pub record ConcernsItself (call : Call) : Type 0 where
   pub names : (t : Table) (p : ℕ) (me : Process) (S : State) → call_row t p call me S ≡ []
   pub sends : (inside : Option TheInside) (p : ℕ) (me : Process) (S : State) → (call_effect inside p call me S).sends ≡ []

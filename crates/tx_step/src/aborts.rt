@@ -17,7 +17,7 @@ use crate::request::Request;
 use tx_base::{ABORTED_BY_CALL, ABORTED_BY_KERNEL, ABORTED_DOOMED, Pid};
 use tx_live::{Content, Inverse};
 
-/// Aborts the transaction of a starter, as a member asks. It takes no memory.
+/// Aborts the transaction of a starter, at a member's request. It takes no memory.
 pub(crate) fn take_abort(
     content: &mut Content,
     pid: Pid,
@@ -34,12 +34,12 @@ pub(crate) fn take_abort(
     Answered::Aborted(ABORTED_BY_CALL)
 }
 
-/// Aborts the live transaction of a starter: all that its members' steps changed is as it was, and the
-/// starter stands at the point after its sys_xbegin with the negative status, which is 203 where the
-/// transaction is doomed, and else 202. It takes no memory. Own rule.
+/// Aborts the live transaction of a starter: all that its members' steps changed is as it was, and
+/// the starter is at the point after its sys_xbegin with the negative status: 203 if the
+/// transaction is doomed, else 202. It takes no memory. Own rule.
 ///
-/// Answers the status, and puts what takes the abort back into its place. Nothing where the starter has
-/// no live transaction; the content is then as it was.
+/// Answers the status, and puts the inverse into its place. None if the starter has no live
+/// transaction; the content is then as it was.
 pub fn take_kernel_abort(content: &mut Content, starter: Pid, inverse: &mut Inverse) -> Option<u16>
     requires { IsContent content.old }
     ensures made { IfSome result (λ status.
@@ -53,8 +53,8 @@ pub fn take_kernel_abort(content: &mut Content, starter: Pid, inverse: &mut Inve
     Some(status)
 }
 
-/// The status that the kernel's abort of a starter's live transaction gives: 203 where it is doomed,
-/// and else 202. Nothing where the starter has no live transaction. It takes no memory. Own rule.
+/// The status that the kernel's abort of a starter's live transaction gives: 203 if it is doomed,
+/// else 202. None if the starter has no live transaction. It takes no memory. Own rule.
 pub fn kernel_status(content: &Content, starter: Pid) -> Option<u16>
     requires { IsContent content.now }
     ensures status { IfSome result (λ status.

@@ -6,7 +6,7 @@ use tx_kernel::Outcome;
 pub enum Answered {
     /// What its process did.
     Acted(Outcome),
-    /// Its transaction was committed. What could not be delivered its inverse has.
+    /// Its transaction was committed. What could not be delivered is in its inverse.
     Committed,
     /// Its transaction was aborted, with this status.
     Aborted(u16),

@@ -13,7 +13,7 @@ use tx_base::{NoMemory, Pid, Refusal};
 use tx_kernel::Outcome;
 use tx_live::{Content, Inverse};
 
-/// Begins a transaction, as the process asks.
+/// Begins a transaction, at the process's request.
 ///
 /// NoMemory where a growth is refused; the content is then as it was.
 pub(crate) fn take_begin(

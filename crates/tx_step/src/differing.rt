@@ -1,4 +1,4 @@
-//! Signals of a step that are answered otherwise now than after an abort.
+//! Signals of a step that are answered differently now than after an abort.
 ghost use Rattle.std.specs.Prelude.{◌≡◌, false, true};
 ghost use Rattle.tx_kernel.specs.Plans.{sent_at_once};
 ghost use Rattle.tx_live.specs.Content.{now_of, view_of};
@@ -28,8 +28,8 @@ use tx_live::Content;
 use tx_reserve::Object;
 use tx_txn::posts_by_faces;
 
-/// A signal to the starter of a live transaction that is answered otherwise now than after an abort of that
-/// transaction. An answer is 0, or the negative number of an error.
+/// A signal to the starter of a live transaction that is answered differently now than after an
+/// abort of that transaction. An answer is 0, or the negative number of an error.
 #[derive(Clone, Copy, PartialEq, Eq)]
 pub struct TwoAnswers {
     pub signo: Signo,
@@ -37,13 +37,13 @@ pub struct TwoAnswers {
     pub after_abort: i64,
 }
 
-/// The first signal of a step to the starter of a live transaction that has two answers. Each is answered
-/// as if those before it had been posted: what is sent at once first, then what is held, where the step
-/// commits it, and last what the step hands out to be held.
+/// The first signal of a step to the starter of a live transaction that has two answers. Each is
+/// answered as if those before it had been posted: first what is sent at once, then what is held if
+/// the step commits it, and last what the step hands out to be held.
 ///
-/// Nothing where there is none, or the starter has no live transaction; of a starter that the step names,
-/// which is in its way anyhow, or is its own; and of a step whose process does not run. Whether the step is
-/// refused for another reason is not asked. It takes no memory.
+/// None if there is no such signal, if the starter has no live transaction, if the step names the
+/// starter, who is in its way anyway or is its own, and if the step's process does not run. It does
+/// not matter whether the step is refused for another reason. It takes no memory.
 pub fn two_answers(content: &Content, step: &Step, starter: Pid) -> Option<TwoAnswers>
     requires { IsContent content.now }
     ensures { result ≡ two_answers (view_of content.now) step.now starter.0 }
@@ -63,7 +63,7 @@ pub fn two_answers(content: &Content, step: &Step, starter: Pid) -> Option<TwoAn
     }
 }
 
-/// The same of what a step requests of its process, at a starter that the step does not name.
+/// The same for what a step requests of its process, at a starter that the step does not name.
 fn answers_of_request(
     content: &Content,
     pid: Pid,
@@ -88,8 +88,8 @@ fn answers_of_request(
     posted_difference(content, role, &first, starter)
 }
 
-/// The first signal to a starter that has two answers, of those that a step of this role posts which sends
-/// this first, where the step's event does not name the starter.
+/// The first signal to a starter that has two answers, among those that a step of this role posts,
+/// of which this is the first. The step's event does not name the starter.
 fn posted_difference(
     content: &Content,
     role: StepRole,

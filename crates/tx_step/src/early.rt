@@ -1,4 +1,4 @@
-//! Why a step is refused before it is asked who is in its way.
+//! Why a step is refused before it is asked whether anybody is in its way.
 ghost use Rattle.std.specs.Prelude.{◌≡◌, ◌&&◌, not, true, Some};
 ghost use Rattle.tx_base.specs.Slots.{slot_at};
 ghost use Rattle.tx_base.specs.declared.steps.Step.TheVariants.{Call as Calls, Deliver};
@@ -19,12 +19,12 @@ use tx_live::Content;
 use tx_proc::Proc;
 use tx_signal::has;
 
-/// Why a call of a process is refused before it is asked who is in its way, the first of these reasons
-/// that there is: NoProcess where the number has no process; NotRunning where that has ended; BadNumber
-/// where a number that the call chooses is out of range or chosen twice; NumberTaken where one is in use;
-/// Doomed where SIGKILL would be pending at the starter of its transaction after an abort; Parked where
-/// it has ended its part of the transaction; KillPending where SIGKILL is pending at it. It takes no
-/// memory.
+/// Why a call of a process is refused before it is asked whether anybody is in its way, by the
+/// first reason of these: NoProcess where the number has no process; NotRunning where that has
+/// ended; BadNumber where a number that the call chooses is out of range or chosen twice;
+/// NumberTaken where one is in use; Doomed where SIGKILL would be pending at the starter of its
+/// transaction after an abort; Parked where it has ended its part of the transaction; KillPending
+/// where SIGKILL is pending at it. It takes no memory.
 pub fn early_refusal_of_call(content: &Content, pid: Pid, call: &Call) -> Option<Refusal>
     requires shaped { IsShaped content.now }
     requires whole { IsWhole content.now.parts }
@@ -42,11 +42,11 @@ pub fn early_refusal_of_call(content: &Content, pid: Pid, call: &Call) -> Option
     }
 }
 
-/// Why the delivery of a signal to a process is refused before it is asked who is in its way, the first of
-/// these reasons that there is: NoProcess where the number has no process; NotRunning where that has
-/// ended; Doomed where SIGKILL would be pending at the starter of its transaction after an abort; Parked
-/// where it has ended its part of the transaction; KillPending where SIGKILL is pending at it, and the
-/// signal is another one. It takes no memory.
+/// Why the delivery of a signal to a process is refused before it is asked whether anybody is in
+/// its way, by the first reason of these: NoProcess where the number has no process; NotRunning
+/// where that has ended; Doomed where SIGKILL would be pending at the starter of its transaction
+/// after an abort; Parked where it has ended its part of the transaction; KillPending where SIGKILL
+/// is pending at it, and the signal is another. It takes no memory.
 pub fn early_refusal_of_delivery(content: &Content, pid: Pid, signo: Signo) -> Option<Refusal>
     requires shaped { IsShaped content.now }
     requires whole { IsWhole content.now.parts }
@@ -60,8 +60,8 @@ pub fn early_refusal_of_delivery(content: &Content, pid: Pid, signo: Signo) -> O
     }
 }
 
-/// Why a process that runs makes no step, whatever numbers the step chooses: what its transaction refuses
-/// it, then KillPending where SIGKILL is pending at it, and the step does not deliver it.
+/// Why a process that runs makes no step, whatever numbers the step chooses: what its transaction
+/// refuses, then KillPending where SIGKILL is pending at it, and the step does not deliver it.
 fn refusal_of_runner(
     content: &Content,
     pid: Pid,

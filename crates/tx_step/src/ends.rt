@@ -12,7 +12,8 @@ use std::alloc::Global;
 use tx_base::{NoMemory, Pid, Refusal};
 use tx_live::{Content, Inverse};
 
-/// Makes what a step requests of the last member whose part is open, which ends that part and commits.
+/// Does what a step requests of the last member whose part is open, which ends that part and
+/// commits.
 ///
 /// NoMemory where a growth is refused; the content is then as it was.
 pub(crate) fn take_end(

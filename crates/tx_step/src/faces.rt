@@ -16,17 +16,17 @@ use tx_kernel::{Face, Sends};
 use tx_signal::is_realtime;
 use tx_txn::Kept;
 
-/// What of the starter of a live transaction decides how posts to it are answered.
+/// What decides how posts to the starter of a live transaction are answered.
 #[derive(Clone, Copy)]
 pub(crate) struct Faces {
-    /// As it is now; nothing where there is no such process.
+    /// As it is now; none if there is no such process.
     pub present: Option<Face>,
     /// As it would be after an abort.
     pub kept: Face,
 }
 
 impl Faces {
-    /// The faces of the process of a number, by what is kept of it.
+    /// The faces of the process of a number, with what is kept of it.
     pub fn of(parts: &Parts, pid: Pid, kept: &Kept) -> Faces
         ensures { (ms : List TheSending) →
             difference pid.0 ms result
@@ -38,8 +38,9 @@ impl Faces {
         }
     }
 
-    /// The first of these sends to the process that is answered otherwise now than after an abort, where
-    /// each is posted in turn: what is sent at once first, then what is held, and last what is handed out.
+    /// The first of these sends to the process that is answered differently now than after an
+    /// abort, each posted in turn: first what is sent at once, then what is held, and last what is
+    /// handed out.
     #[inline(always)] // it has few callers, and most ask only whether there is one
     pub fn difference(self, pid: Pid, first: &Sends, held: &[Sending]) -> Option<TwoAnswers>
         ensures { result ≡ difference pid.0 (sent first.now held.now) self }
@@ -58,15 +59,15 @@ impl Faces {
         }
     }
 
-    /// Posts these that are held to both. The first that is answered otherwise at the one than at the
-    /// other, behind which none is posted.
+    /// Posts these held sends to both. Answers the first that is answered differently at the two;
+    /// none after it is posted.
     fn post_all(&mut self, pid: Pid, held: &[Sending]) -> Option<TwoAnswers>
         ensures { (ms : List TheSending) →
             difference pid.0 (map sending_of held.now ++ ms) self.old
             ≡ option_or result (difference pid.0 ms self.new) }
     {
         for place in 0..held.len() {
-            // Most are for others, and worth no call.
+            // Most go to others, and are not worth a call.
             if held[place].target == pid {
                 let answers = self.post(pid, &held[place]);
                 if answers.is_some() {
@@ -77,8 +78,7 @@ impl Faces {
         None
     }
 
-    /// Posts a signal to both, if it is for the process. Its answers, where it is answered otherwise at
-    /// the one than at the other.
+    /// Posts a signal to both, if it is for the process. Its answers, if they differ.
     fn post(&mut self, pid: Pid, sending: &Sending) -> Option<TwoAnswers>
         ensures { (ms : List TheSending) →
             difference pid.0 (sending_of sending.now ∷ ms) self.old
@@ -128,7 +128,7 @@ fn answer(face: Option<Face>, sending: &Sending) -> Result<(), Errno>
     }
 }
 
-/// The answer that the result of a post is.
+/// The result of a post, as an answer.
 fn number(posted: Result<(), Errno>) -> i64
     ensures { result ≡ answer_of posted }
 {

@@ -16,13 +16,13 @@ use tx_live::Content;
 use tx_reserve::{Object, Objects};
 use tx_txn::answers_of_faces;
 
-/// The least starter whose live transaction is in the way of a step: it owns an object of the step's
-/// footprint, or one of the sends to the starter is answered otherwise now than after its abort. The own
-/// transaction, of which the process of the step is a member, is never in the way. Nothing where none
-/// is. It takes no memory.
+/// The least starter whose live transaction is in the way of a step: it owns an object of the
+/// step's footprint, or a send to the starter is answered differently now than after its abort. The
+/// transaction of which the step's process is a member is never in the way. None if none is. It
+/// takes no memory.
 ///
-/// The step sends the first signal at once, and then what is held, where it commits; what it hands out
-/// itself comes last.
+/// The step sends the first signal at once, then what is held if it commits, and last what it hands
+/// out.
 pub fn find_starter(
     content: &Content,
     own: Option<Pid>,
@@ -42,9 +42,9 @@ pub fn find_starter(
     lesser(owner, target)
 }
 
-/// The least starter of a live transaction but the own one at which one of the sends has two answers:
-/// it is answered otherwise now than after the abort. A target is asked once for all its sends, since
-/// asking posts each send.
+/// The least starter of another live transaction at which one of the sends has two answers: it is
+/// answered differently now than after the abort. A target is asked once for all its sends, since
+/// asking posts each.
 fn least_target(content: &Content, own: Option<Pid>, first: &Sends, held: &[Sending]) -> Option<Pid>
     ensures { option_map number_of result
         ≡ least_target (gives_two_answers content.now (option_map number_of own)

@@ -17,10 +17,10 @@ use tx_base::{Pid, Refusal};
 use tx_live::{Content, Inverse, Progress};
 use tx_reserve::Objects;
 
-/// Makes what a step requests of a member, and reserves its footprint.
+/// Does what a step requests of a member, and reserves its footprint.
 ///
-/// It is refused for the reason of its rule, and NoMemory where a growth is refused; the content is then
-/// as it was.
+/// Refused for its rule's reason, or NoMemory where a growth is refused; the content is then as it
+/// was.
 pub(crate) fn take_inside(
     content: &mut Content,
     alloc: Global,

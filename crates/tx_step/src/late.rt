@@ -1,4 +1,4 @@
-//! Why the act of a process was refused as it was planned.
+//! Why the act of a process was refused when planned.
 ghost use Rattle.tx_base.specs.Slots.{slot_at};
 ghost use Rattle.tx_step.specs.Contents.{IsContent};
 ghost use Rattle.tx_step.specs.Late.{IsWhyNot, TellsRule, WasRefused};
@@ -13,8 +13,8 @@ use tx_base::{Pid, Refusal};
 use tx_kernel::Act;
 use tx_live::Content;
 
-/// Why the act of a process that runs was refused, whose plan was refused so: for that reason,
-/// and for the rule's where it was want of memory and the rule has one. It takes no memory.
+/// Why the act of a process that runs was refused, given why its plan was: for the same reason, but
+/// if that was want of memory and the rule has a reason, for the rule's. It takes no memory.
 pub(crate) fn late_refusal(content: &Content, pid: Pid, act: &Act, why: Refusal) -> Refusal
     requires content { IsContent content.now }
     requires running { IsRunning (slot_at content.now.parts.procs pid.0) }

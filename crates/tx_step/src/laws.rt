@@ -1,4 +1,4 @@
-//! The laws that steps stand on.
+//! The laws that the proofs of steps use.
 ghost use Rattle.tx_step.specs.Laws.{StepLaws};
 
 use crate::refusal_laws::{contents_are_whole, refusals_are_early};
@@ -7,7 +7,7 @@ use tx_laws::{
 };
 use tx_txn::{answers_of_faces, logs_keep};
 
-/// The laws on which the proofs of steps stand. It does nothing.
+/// The laws that the proofs of steps use. It does nothing.
 pub(crate) fn laws()
     ensures { StepLaws }
 {

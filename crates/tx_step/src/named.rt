@@ -12,9 +12,9 @@ use tx_base::{Pid, Sending, Step};
 use tx_live::Content;
 use tx_reserve::Objects;
 
-/// The objects that a step names: those that it reserves where its process is a member of a transaction,
-/// of numbers that there may be. A process that is missing names itself alone, and the kernel's abort
-/// names nothing. It takes no memory.
+/// The objects, of numbers in range, that a step names: those that it reserves if its process is a
+/// member of a transaction. A missing process names only itself, and the kernel's abort names
+/// nothing. It takes no memory.
 pub fn footprint(content: &Content, step: &Step) -> Objects
     requires { IsContent content.now }
     ensures { IsSetOf result
@@ -29,7 +29,7 @@ pub fn footprint(content: &Content, step: &Step) -> Objects
     )
 }
 
-/// What the transaction holds that the process of a step is a member of; nothing where it is of none.
+/// What the transaction of a step's process holds; none if it is in none.
 fn held_for<'a>(content: &'a Content, step: &Step) -> &'a [Sending]
     ensures { HoldsFor content.now.marks step.now result.now (held_of content.now) }
 {
@@ -39,7 +39,7 @@ fn held_for<'a>(content: &'a Content, step: &Step) -> &'a [Sending]
     }
 }
 
-/// What the transaction holds that a process is a member of; nothing where it is of none.
+/// What the transaction of a process holds; none if it is in none.
 fn held_with<'a>(content: &'a Content, pid: Pid) -> &'a [Sending]
     ensures { HoldsBy (slot_at content.now.marks pid.0) result.now (held_of content.now) }
 {

@@ -13,10 +13,10 @@ use std::alloc::Global;
 use tx_base::{Pid, Refusal};
 use tx_live::{Content, Inverse};
 
-/// Makes what a step requests of a process that is in no transaction.
+/// Does what a step requests of a process that is in no transaction.
 ///
-/// It is refused for the reason of its rule, and NoMemory where a growth is refused; the content is then
-/// as it was.
+/// Refused for its rule's reason, or NoMemory where a growth is refused; the content is then as it
+/// was.
 pub(crate) fn take_outside(
     content: &mut Content,
     alloc: Global,

@@ -1,10 +1,10 @@
-//! Calls that concern their own process alone.
+//! Calls that concern only their own process.
 ghost use Rattle.std.specs.Prelude.{IsTrue};
 ghost use Rattle.tx_step.specs.Ways.{ConcernsItself};
 
 use tx_base::Call;
 
-/// Whether a call names nothing beside its process, and sends nothing, whoever makes it.
+/// Whether a call, whoever makes it, names only its process and sends nothing.
 pub(crate) fn concerns_itself(call: &Call) -> bool
     ensures { IsTrue result → ConcernsItself call.now }
 {

@@ -1,5 +1,5 @@
-//! The laws that early refusals stand on, and how they stand to all refusals; what is so of contents;
-//! and what is posted with a step.
+//! The laws that the proofs of early refusals use, and how these relate to all refusals; what holds
+//! for contents; and what is posted with a step.
 ghost use Rattle.tx_step.specs.Contents.{BootedIsContent, ContentsAreWhole};
 ghost use Rattle.tx_step.specs.Early.{RefusalIsEarly};
 ghost use Rattle.tx_step.specs.RefusalLaws.{JudgeLaws, WayLaws};
@@ -9,7 +9,7 @@ use tx_laws::{answers_of_states, endings, footprints, inside, well_formed, well_
 use tx_reserve::footprints_are_within;
 use tx_txn::answers_of_faces;
 
-/// The laws on which the proofs of early refusals stand. It does nothing.
+/// The laws that the proofs of early refusals use. It does nothing.
 pub(crate) fn laws()
     ensures { JudgeLaws }
 {
@@ -17,7 +17,7 @@ pub(crate) fn laws()
     answers_of_faces();
 }
 
-/// The laws on which the proofs of ways stand. It does nothing.
+/// The laws that the proofs of ways use. It does nothing.
 pub(crate) fn way_laws()
     ensures { WayLaws }
 {
@@ -28,8 +28,8 @@ pub(crate) fn way_laws()
     footprints_are_within();
 }
 
-/// The definitions refuse a step for its first early reason; and where it has none, because somebody is
-/// in its way, or not at all.
+/// The definitions refuse a step for its first early reason; if it has none, because somebody is in
+/// its way, or not at all.
 pub fn refusals_are_early()
     ensures { RefusalIsEarly }
 {}
@@ -42,7 +42,7 @@ pub fn contents_are_whole()
     well_formed();
 }
 
-/// What a kernel keeps as it is booted is a content that steps lead to.
+/// A booted kernel has a content that steps lead to.
 pub fn booted_is_content()
     ensures { BootedIsContent }
 {
@@ -50,8 +50,8 @@ pub fn booted_is_content()
     well_formed_table();
 }
 
-/// What is posted with a call or a delivery of a process that runs is what it sends first, at once or
-/// at the commit, and where it commits what the transaction holds.
+/// What is posted with a call or a delivery of a process that runs is what it sends first, at once
+/// or at the commit, and if it commits, what the transaction holds.
 pub fn posts_are_told()
     ensures call { CallIsPosted }
     ensures delivery { DeliveryIsPosted }

@@ -18,8 +18,8 @@ use tx_live::{Content, Inverse};
 use tx_proc::Proc;
 use tx_txn::Outbox;
 
-/// Puts the reply to an accepted step of a process where it is to stand, by what the step was answered
-/// and what takes it back. A reply is large, so it is made there and moved nowhere.
+/// Puts the reply to an accepted step of a process into its place, by what the step was answered
+/// and its inverse. A reply is large, so it is made there and not moved.
 pub fn put_reply(
     reply: &mut Reply,
     content: &Content,
@@ -45,8 +45,8 @@ pub fn put_reply(
     }
 }
 
-/// Puts the reply to a call that was done. Most replies are such: after another of them the answer
-/// alone is written.
+/// Puts the reply to a call that was done. Most replies are such: after another of them only the
+/// answer is written.
 fn put_done(reply: &mut Reply, answer: i64)
     ensures { reply.new ≡ Done answer }
 {
@@ -92,7 +92,7 @@ fn put_shown(reply: &mut Reply, proc: Option<&Proc>, shown: Shown)
     *reply = Reply::Out(shown_bytes(proc, shown));
 }
 
-/// The bytes that are to be shown of a process's memory, 0 where no page is mapped.
+/// The bytes to show of a process's memory, 0 where no page is mapped.
 fn shown_bytes(proc: Option<&Proc>, shown: Shown) -> ArrayVec<u8, 64>
     requires places { HasPlaces (option_copied proc) }
     requires few { shown.count ≤ 64 }
@@ -110,9 +110,9 @@ fn shown_bytes(proc: Option<&Proc>, shown: Shown) -> ArrayVec<u8, 64>
     bytes
 }
 
-/// Appends the bytes of a process's memory from an address on, up to the end of its page, but at most so
-/// many: 0 where no page is mapped. Appends one 0 where that is no address, or there is no process.
-/// Answers how many.
+/// Appends the bytes of a process's memory from an address on, up to the end of its page, but at
+/// most this many: 0 where no page is mapped. Appends one 0 if that is no address, or there is no
+/// process. Answers how many.
 fn push_part(
     proc: Option<&Proc>,
     address: usize,

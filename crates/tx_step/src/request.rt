@@ -38,12 +38,12 @@ pub(crate) enum Request<'a> {
     Delivery(Signo),
 }
 
-/// EINVAL: the answer of a call of transactions that means nothing.
+/// EINVAL: the answer of a call of transactions that makes no sense.
 const MEANS_NOTHING: i64 = -22;
 
 impl<'a> Request<'a> {
-    /// The act that it comes to, of a process that is a member of a live transaction, or is none: a call of
-    /// transactions is an answer. One that begins or aborts a transaction is made otherwise.
+    /// The act that it comes to, of a process that is a member of a live transaction, or is none: a
+    /// call of transactions is an answer. Calls that begin or abort one are not made here.
     pub(crate) fn act(self, is_member: bool) -> Act<'a>
         ensures { IsActOf self.entry is_member result }
     {
@@ -53,7 +53,7 @@ impl<'a> Request<'a> {
         }
     }
 
-    /// Why it is refused before it is asked who is in its way, the first reason that there is.
+    /// Why it is refused before it is asked whether anybody is in its way: the first reason.
     pub(crate) fn early_refusal(self, content: &Content, pid: Pid) -> Option<Refusal>
         requires { IsContent content.now }
         ensures { result ≡ early_refusal (view_of content.now) pid.0 (step_of pid self.entry) }
@@ -65,7 +65,7 @@ impl<'a> Request<'a> {
         }
     }
 
-    /// What it is to the transactions.
+    /// Its role.
     #[inline(always)] // it has few callers, and each step asks it
     pub(crate) fn role(self, content: &Content, pid: Pid) -> StepRole
         requires content { IsContent content.now }
@@ -78,7 +78,7 @@ impl<'a> Request<'a> {
         }
     }
 
-    /// Where no transaction is live: whether it begins one, and then whether that defers deliveries.
+    /// If no transaction is live: whether it begins one, and then whether that defers deliveries.
     pub(crate) fn beginning(self, content: &Content, pid: Pid) -> Option<bool>
         requires content { IsContent content.now }
         requires running { IsRunning (slot_at content.now.parts.procs pid.0) }
@@ -94,7 +94,7 @@ impl<'a> Request<'a> {
         }
     }
 
-    /// What it sends first, where it is this to the transactions.
+    /// What it sends first, if this is its role.
     pub(crate) fn sends(self, content: &Content, pid: Pid, role: StepRole) -> Sends
         requires content { IsContent content.now }
         requires running { IsRunning (slot_at content.now.parts.procs pid.0) }
@@ -110,8 +110,7 @@ impl<'a> Request<'a> {
         }
     }
 
-    /// Puts what it names into an empty set, and tells who is in its way, where it is this to the
-    /// transactions.
+    /// Puts what it names into an empty set, and answers who is in its way, if this is its role.
     pub(crate) fn way(
         self,
         content: &Content,

@@ -1,4 +1,4 @@
-//! What a step of a process that runs is to the transactions.
+//! The role of a step of a process that runs.
 ghost use Rattle.std.specs.Prelude.{◌≡◌, ℕ, true, not, length, Some, None};
 ghost use Rattle.tx_base.specs.Slots.{slot_at};
 ghost use Rattle.tx_base.specs.declared.steps.Reply.{Reply};
@@ -24,7 +24,7 @@ use tx_live::{Content, Progress};
 use tx_proc::Proc;
 use tx_txn::is_last_open;
 
-/// What a step is to the transactions.
+/// The role of a step in the transactions.
 #[derive(Clone, Copy)]
 pub enum StepRole {
     /// Its process is in no transaction, and it begins none.
@@ -39,7 +39,7 @@ pub enum StepRole {
     Aborts(Pid),
 }
 
-/// What a call of a process that runs is to the transactions. It takes no memory.
+/// The role of a call of a process that runs. It takes no memory.
 #[inline(always)] // it has few callers, and each step asks it
 pub fn role_of_call(content: &Content, pid: Pid, call: &Call) -> StepRole
     requires shaped { IsShaped content.now }
@@ -55,7 +55,7 @@ pub fn role_of_call(content: &Content, pid: Pid, call: &Call) -> StepRole
     }
 }
 
-/// What a delivery to a process that runs is to the transactions. It takes no memory.
+/// The role of a delivery to a process that runs. It takes no memory.
 #[inline(always)] // as `role_of_call`
 pub fn role_of_delivery(content: &Content, pid: Pid, signo: Signo) -> StepRole
     requires shaped { IsShaped content.now }
@@ -89,7 +89,7 @@ pub(crate) fn beginning(call: &Call) -> Option<bool>
     }
 }
 
-/// What a step of a process that is in no transaction is to the transactions.
+/// The role of a step of a process that is in no transaction.
 fn role_alone(beginning: Option<bool>) -> StepRole
     ensures { result ≡ role_alone beginning }
 {
@@ -99,7 +99,7 @@ fn role_alone(beginning: Option<bool>) -> StepRole
     }
 }
 
-/// What a call is to the transactions that a member of this mark makes.
+/// The role of a call that a member with this mark makes.
 #[inline(always)] // as `role_of_call`
 fn role_of_member(content: &Content, pid: Pid, mark: Mark, call: &Call) -> StepRole
     requires shaped { IsShaped content.now }
@@ -118,7 +118,8 @@ fn role_of_member(content: &Content, pid: Pid, mark: Mark, call: &Call) -> StepR
     }
 }
 
-/// The end of a member's part: the last one whose part is open commits, and another one waits for the rest.
+/// The end of a member's part: the last one whose part is open commits, any other waits for the
+/// rest.
 fn member_end(content: &Content, starter: Pid, pid: Pid) -> StepRole
     requires shaped { IsShaped content.now }
     requires kept { IsKept (content_of content.now) }

@@ -24,11 +24,11 @@ use tx_base::{Call, Pid, Refusal, Signo};
 use tx_live::{Content, Inverse};
 use tx_reserve::Objects;
 
-/// Makes a call of a process. Answers what it is answered, and puts what takes it back into its place.
+/// Makes a call of a process. Answers what it is answered, and puts its inverse into its place.
 ///
-/// A refused call changes nothing. It is refused for the first of these reasons that there is:
-/// NoProcess, NotRunning, BadNumber, NumberTaken, Doomed, Parked, KillPending, Busy, Wait; and NoMemory
-/// where a growth is refused and nothing else refuses it. A member's sys_xabort takes no memory.
+/// A refused call changes nothing. It is refused for the first reason of these: NoProcess,
+/// NotRunning, BadNumber, NumberTaken, Doomed, Parked, KillPending, Busy, Wait; and NoMemory where
+/// a growth is refused and nothing else refuses it. A member's sys_xabort takes no memory.
 pub fn take_call(
     content: &mut Content,
     alloc: Global,
@@ -42,11 +42,11 @@ pub fn take_call(
     take_request(content, alloc, pid, Request::Call(call), inverse)
 }
 
-/// Delivers a signal to a process at which it is pending. Answers what the delivery is answered, and puts
-/// what takes it back into its place.
+/// Delivers a signal to a process at which it is pending. Answers what the delivery is answered,
+/// and puts its inverse into its place.
 ///
-/// A refused delivery changes nothing. It is refused for the first of these reasons that there is:
-/// NoProcess, NotRunning, Doomed, Parked, KillPending, Busy, NotDeliverable, Deferred, FramesFull; and
+/// A refused delivery changes nothing. It is refused for the first reason of these: NoProcess,
+/// NotRunning, Doomed, Parked, KillPending, Busy, NotDeliverable, Deferred, FramesFull; and
 /// NoMemory where a growth is refused and nothing else refuses it.
 pub fn take_delivery(
     content: &mut Content,
@@ -61,7 +61,7 @@ pub fn take_delivery(
     take_request(content, alloc, pid, Request::Delivery(signo), inverse)
 }
 
-/// Makes what a step requests of a process, where nothing refuses it.
+/// Does what a step requests of a process, if nothing refuses it.
 fn take_request(
     content: &mut Content,
     alloc: Global,
@@ -87,8 +87,8 @@ fn take_request(
     take_as(content, alloc, pid, role, request, &footprint, inverse)
 }
 
-/// Makes what a step requests of a process, which nothing refuses early, where no transaction is live: so
-/// nobody is in its way.
+/// Does what a step requests of a process, if nothing refuses it early and no transaction is live,
+/// so that nobody is in its way.
 fn take_alone(
     content: &mut Content,
     alloc: Global,
@@ -108,7 +108,7 @@ fn take_alone(
     }
 }
 
-/// Makes what a step requests of a process, as what it is to the transactions.
+/// Does what a step requests of a process, by its role.
 fn take_as(
     content: &mut Content,
     alloc: Global,

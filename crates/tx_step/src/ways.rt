@@ -37,8 +37,8 @@ use tx_live::Content;
 use tx_reserve::{Object, Objects, footprint_of_call, footprint_of_delivery};
 use tx_txn::answers_of_faces;
 
-/// Puts what a call of a process that runs names into an empty set, and tells who is in its way, where the
-/// call chooses no bad number and is this to the transactions. It takes no memory.
+/// Puts what a call of a process that runs names into an empty set, and answers who is in its way,
+/// if the call chooses no bad number and this is its role. It takes no memory.
 pub fn way_of_call(
     content: &Content,
     pid: Pid,
@@ -69,8 +69,8 @@ pub fn way_of_call(
     }
 }
 
-/// Puts what the delivery of a signal to a process that runs names into an empty set, and tells who is in
-/// its way, where it is this to the transactions. It takes no memory.
+/// Puts what the delivery of a signal to a process that runs names into an empty set, and answers
+/// who is in its way, if this is its role. It takes no memory.
 pub fn way_of_delivery(
     content: &Content,
     pid: Pid,
@@ -125,8 +125,8 @@ fn way_of_others_call(
     find_in_way(content, pid, role, footprint, &first)
 }
 
-/// Puts one process into an empty set, and tells who is in the way of a step that names it alone and sends
-/// nothing: the owner of the process, unless it is the own transaction.
+/// Puts one process into an empty set, and answers who is in the way of a step that names only that
+/// and sends nothing: the owner of the process, unless that is its own transaction.
 fn way_of_process(
     content: &Content,
     own: Option<Pid>,
@@ -187,8 +187,8 @@ fn inside_of<'a>(content: &'a Content, pid: Pid) -> Option<Inside<'a>>
     Some(boxed.txn.inside(&content.marks))
 }
 
-/// What the transaction holds that a step of this role commits, if it commits one. So nobody looks again
-/// whether another member's part is open: the role of a step that ends a part says it.
+/// What the transaction holds that a step of this role commits, if it commits one. The role of a
+/// step that ends a part says so; nobody looks at the other members again.
 fn last_by<'a>(content: &'a Content, role: StepRole) -> Option<&'a [Sending]>
     ensures { option_map (map sending_of) (option_copied result) ≡ held_at_commit content.now role }
 {
@@ -198,7 +198,7 @@ fn last_by<'a>(content: &'a Content, role: StepRole) -> Option<&'a [Sending]>
     }
 }
 
-/// What the transaction of a starter holds; nothing where none is live.
+/// What the transaction of a starter holds; none if none is live.
 pub(crate) fn held_by<'a>(content: &'a Content, starter: Pid) -> &'a [Sending]
     ensures { map sending_of result.now ≡ held_of content.now starter.0 }
 {
@@ -216,7 +216,7 @@ fn starter_of(content: &Content, pid: Pid) -> Option<Pid>
     Some(mark.starter)
 }
 
-/// Who is in the way of a step of a process, which sends this first.
+/// Who is in the way of a step of a process that sends this first.
 fn find_in_way(
     content: &Content,
     pid: Pid,

@@ -30,7 +30,7 @@ abbrev pub desc_text : ℕ → Description → List ℕ
 desc_text number description =
     codes "desc " ++ (decimal number ++ 32 ∷ (decimal description.pipe ++ (side_text description.side ++ wait_text description.nonblock)))
 
--- the line of the number of a description: none where there is none
+-- the line of the description of a number: none if there is none
 abbrev pub desc_line : ℕ → Option Description → List ℕ
 desc_line number None = []
 desc_line number (Some description) = desc_text number description
@@ -39,7 +39,7 @@ desc_line number (Some description) = desc_text number description
 abbrev pub descs_text : (ℕ → Option Description) → List ℕ
 descs_text descs = upto (λ number. desc_line number (descs number)) DESCRIPTIONS
 
--- the line of the number of a pipe, with all its bytes: none where there is none
+-- the line of the pipe of a number, with all its bytes: none if there is none
 abbrev pub pipe_line : ℕ → Option (List ℕ) → List ℕ
 pipe_line number None = []
 pipe_line number (Some bytes) = codes "pipe " ++ (decimal number ++ 32 ∷ (bytes_text bytes ++ 10 ∷ []))

@@ -1,4 +1,4 @@
--- Where the members of each live transaction stand.
+-- Where the members of each live transaction are.
 use Rattle.std.specs.Prelude.{◌≡◌, ℕ, ◌+◌, ◌<◌, ◌≤◌, Bool, true, false, List, length, slice_index, Option, Some, None, nat_eq}
 use Rattle.tx_base.specs.declared.marks.Mark.{Mark}
 
@@ -7,7 +7,7 @@ abbrev pub is_of : Option Mark → ℕ → Bool
 is_of None starter = false
 is_of (Some mark) starter = nat_eq mark.starter.0 starter
 
--- the number is the first after another that is a member of the starter's transaction, or stands past the width where there is none
+-- the number is the first after another that is a member of the starter's transaction, or is past the width if there is none
 pub record LeadsOn (width : ℕ) (marks : ℕ → Option Mark) (starter from to : ℕ) : Type 0 where
   pub after : from < to
   pub inside : to ≤ width + 1

@@ -11,7 +11,7 @@ abbrev pub of_process : (Process → List ℕ) → Option Process → List ℕ
 of_process text None = []
 of_process text (Some process) = text process
 
--- the line of its page of a number, where it is mapped
+-- the line of its page of a number, if it is mapped
 abbrev pub page_of : ℕ → Option Process → List ℕ
 page_of number slot = of_process (λ process. page_line number (page_at process.memory number)) slot
 

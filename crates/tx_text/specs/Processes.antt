@@ -26,7 +26,7 @@ abbrev pub page_text : ℕ → PageView → List ℕ
 page_text number page =
     codes "page " ++ (decimal number ++ (flag_text page.writable ++ (upto (λ offset. byte_text offset (slice_index page.bytes offset)) 64 ++ 10 ∷ [])))
 
--- the line of a page number: none where it is not mapped
+-- the line of the page of a number: none if it is not mapped
 abbrev pub page_line : ℕ → Option PageView → List ℕ
 page_line number None = []
 page_line number (Some page) = page_text number page
@@ -73,7 +73,7 @@ own_text process =
 abbrev pub process_text : ℕ → Process → List ℕ
 process_text number process = head_text number process ++ own_text process
 
--- the lines of a process number: none where there is no process
+-- the lines of the process of a number: none if there is no process
 abbrev pub process_lines : ℕ → Option Process → List ℕ
 process_lines number None = []
 process_lines number (Some process) = process_text number process

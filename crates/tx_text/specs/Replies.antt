@@ -48,7 +48,7 @@ numbered_name number =
     else if nat_eq number (error_number BrokenPipe) then Some (codes "EPIPE")
     else None
 
--- the name of the error that a call returns so: its number, below zero
+-- the name of the error whose number, below zero, a call returns
 abbrev pub error_name : ℤ → Option (List ℕ)
 error_name (pos n) = None
 error_name (negsuc n) = numbered_name (n + 1)
@@ -58,7 +58,7 @@ abbrev pub spaced_name : Option (List ℕ) → List ℕ
 spaced_name None = []
 spaced_name (Some name) = 32 ∷ name
 
--- what is beside a reply: the name of the error that it is, after a space
+-- what is beside a reply: the name of its error, after a space
 abbrev pub name_beside : Reply → List ℕ
 name_beside (Done ret) = spaced_name (error_name ret)
 name_beside reply = []

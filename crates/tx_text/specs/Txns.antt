@@ -16,12 +16,12 @@ abbrev pub is_listed_in : Option Mark → ℕ → Bool → Bool
 is_listed_in None starter ended = false
 is_listed_in (Some mark) starter ended = if nat_eq mark.starter.0 starter then same_answer mark.ended ended else false
 
--- whether one of the first so many numbers is listed
+-- whether one of the first n numbers is listed
 abbrev pub some_of : (ℕ → Bool) → ℕ → Bool
 some_of listed zero = false
 some_of listed (suc count) = some_after (some_of listed count) (listed count)
 
--- those of the first so many numbers that are listed, joined by commas. The first number is 1
+-- those of the first n numbers that are listed, joined by commas. The first number is 1
 unfoldable pub listed_text : (ℕ → Bool) → ℕ → List ℕ
 listed_text listed count = upto (λ done. member_text (some_of listed done) (listed done) (done + 1)) count
 
@@ -31,7 +31,7 @@ members_text width marks starter ended =
     let listed = λ (done : ℕ). is_listed_in (marks (done + 1)) starter ended in
     listed_text listed width ++ (if some_of listed width then [] else codes "-")
 
--- what stands between a transaction's starter and its first list
+-- what is between a transaction's starter and its first list
 abbrev pub flag_of : Bool → List ℕ
 flag_of true = codes " defer open "
 flag_of false = codes " open "

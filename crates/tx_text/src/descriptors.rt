@@ -46,7 +46,7 @@ pub fn put_descs(text: &mut String, descs: &Descs) -> Result<(), AllocError>
     Ok(())
 }
 
-/// Appends the line of the number of a description: none where there is none.
+/// Appends the line of the description of a number: none if there is none.
 pub fn put_desc_line(
     text: &mut String,
     number: usize,
@@ -103,7 +103,7 @@ pub fn put_pipes(text: &mut String, pipes: &PipeTable) -> Result<(), AllocError>
     Ok(())
 }
 
-/// Appends the line of the number of a pipe: none where there is none.
+/// Appends the line of the pipe of a number: none if there is none.
 pub fn put_pipe_line(
     text: &mut String,
     number: usize,

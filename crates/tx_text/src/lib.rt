@@ -1,16 +1,11 @@
-//! The texts that are printed: those of the parts of a state, and that of a reply.
+//! The texts that are printed, of the parts of a state and of a reply. It knows no machine, so it
+//! is proved beside the crates that make one.
 //!
-//! What is printed, for all crates above that print; it knows no machine, so it is proved beside
-//! the crates that make one. `put_procs`, `put_descs` and `put_pipes` append the processes,
-//! descriptions and pipes of a state, `put_txn_lines` a live transaction, and `put_reply` a reply, which
-//! `put_named_reply` has with the name of an error beside its number.
-//! Others append the lines of one thing alone: a process, a description, a pipe, or what a process
-//! has (`pieces.rt`).
-//! Words, numbers, sets of signals and bytes are appended by what tx_lines has for them. There is
-//! one function for each kind of line, and for each list of lines one that goes over it. A reply is
-//! printed whole, from the one that the machine answers. `Links` finds the members of all live
-//! transactions in one pass over the marks. What a text says is in `specs/`, of which what reads a
-//! text takes the spelling of bytes, of lists of numbers and of sets of signals.
+//! `put_procs`, `put_descs` and `put_pipes` append the parts of a state, `put_txn_lines` a live
+//! transaction, `put_reply` a reply, and `put_named_reply` one with its error name. Others append
+//! the lines of one thing (`pieces.rt`). Each kind of line has its function, and each list of lines
+//! one that goes over it. Words, numbers, signal sets and bytes are printed by tx_lines. `Links`
+//! finds the members of all live transactions in one pass over the marks.
 #![tactic(auto)]
 
 mod descriptors;

@@ -5,7 +5,7 @@ ghost use Rattle.tx_base.specs.Slots.{slot_at};
 use std::alloc::{AllocError, Global};
 use tx_base::{Mark, Pid, Slots};
 
-/// Where the members of each live transaction stand, by rising number.
+/// Where the members of each live transaction are, by rising number.
 #[derive(Drop)]
 pub struct Links {
     /// For each starter its first member, or a number past the width.

@@ -34,8 +34,8 @@ pub fn put_fd_of(text: &mut String, slot: Option<&Proc>, fd: usize) -> Result<()
     }
 }
 
-/// Appends the line of the standard signals that are pending at a process: none where no one is, or there
-/// is no process.
+/// Appends the line of the standard signals that are pending at a process: none if none is, or
+/// there is no process.
 pub fn put_pending_of(text: &mut String, slot: Option<&Proc>) -> Result<(), AllocError>
     ensures { OnOk result
         (string_bytes text.new ≡ string_bytes text.old

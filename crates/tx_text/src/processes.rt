@@ -31,7 +31,7 @@ pub fn put_procs(text: &mut String, parts: &Parts, width: u16) -> Result<(), All
     Ok(())
 }
 
-/// Appends the lines of a process number: none where there is no process.
+/// Appends the lines of the process of a number: none if there is no process.
 #[inline(always)] // each number up to a width asks it, and few are processes
 pub fn put_slot_lines(text: &mut String, pid: Pid, slot: Option<&Proc>) -> Result<(), AllocError>
     ensures { OnOk result
@@ -126,7 +126,7 @@ fn put_pages(text: &mut String, space: &Space) -> Result<(), AllocError>
     Ok(())
 }
 
-/// Appends the line of a page number: none where it is not mapped.
+/// Appends the line of the page of a number: none if it is not mapped.
 pub fn put_page_line(
     text: &mut String,
     number: usize,

@@ -7,8 +7,8 @@ use std::fmt::Write;
 use tx_base::{Missed, Refusal, Reply};
 use tx_lines::{put, put_bytes, put_count, put_number, refusal_word};
 
-/// Appends a reply, without its step's number and without a line's end. The only error is that a
-/// growth of memory was refused: the text may then have some of the reply behind what it had.
+/// Appends a reply, without its step's number and without a line end. The only error is that a
+/// growth of memory was refused: the text may then end in some of the reply.
 #[inline(always)] // each step's line has one; a call of its own costs 14
 pub fn put_reply(text: &mut String, reply: &Reply) -> Result<(), AllocError>
     ensures { OnOk result (string_bytes text.new ≡ string_bytes text.old ++ reply_text reply.now) }
@@ -58,7 +58,7 @@ fn put_missed(text: &mut String, missed: &Missed) -> Result<(), AllocError>
     write!(text, " {target}:{signo}:{}", missed.errno.number())
 }
 
-/// Appends what a refusal is called, and the starter where one is in the way.
+/// Appends what a refusal is called, and the starter if one is in the way.
 fn put_refusal(text: &mut String, refusal: Refusal) -> Result<(), AllocError>
     ensures { OnOk result (string_bytes text.new ≡ string_bytes text.old ++ refusal_text refusal) }
 {
@@ -81,7 +81,7 @@ pub fn put_named_reply(text: &mut String, reply: &Reply) -> Result<(), AllocErro
     put_name_beside(text, reply)
 }
 
-/// Appends the name of the error that a reply is, after a space.
+/// Appends the name of a reply's error, after a space.
 fn put_name_beside(text: &mut String, reply: &Reply) -> Result<(), AllocError>
     ensures { OnOk result
         (string_bytes text.new ≡ string_bytes text.old ++ name_beside reply.now) }
@@ -95,8 +95,8 @@ fn put_name_beside(text: &mut String, reply: &Reply) -> Result<(), AllocError>
     }
 }
 
-/// The name of the error that a call returns by this number, as `EBADF` for -9. Nothing where the number
-/// is no error's.
+/// The name of the error that a call returns as this number: `EBADF` for -9. None if the number is
+/// no error's.
 pub fn error_name(ret: i64) -> Option<&'static str>
     ensures { option_map (λ name. name.now) result ≡ error_name ret }
 {

@@ -12,8 +12,8 @@ use std::fmt::Write;
 use tx_base::{Mark, Pid, Sending, Slots};
 use tx_lines::{dash, put, put_member};
 
-/// Appends the lines of a starter's live transaction, with what it holds: none where the process has
-/// begun none. It goes over the members once for each of the two lists.
+/// Appends the lines of a starter's live transaction, with what it holds: none where the process
+/// has begun none. It goes over the members twice, once for each list.
 #[inline(always)] // each number up to the width asks it, and few have begun one
 pub fn put_txn_lines(
     text: &mut String,
@@ -63,7 +63,7 @@ fn put_txn(
     put(text, "\n")
 }
 
-/// What stands between a transaction's starter and its first list.
+/// What is between a transaction's starter and its first list.
 fn flag(defers: bool) -> &'static str
     ensures { result.now ≡ flag_of defers }
 {

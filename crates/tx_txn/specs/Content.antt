@@ -1,5 +1,5 @@
--- A kernel that keeps for each live transaction a log of old parts, and apart from it what would be pending at its
--- starter after an abort. Own rules.
+-- A kernel that keeps for each live transaction a log of old parts, and beside it what would be pending at its starter after an abort. Own
+-- rules.
 use Rattle.std.specs.Prelude.{◌≡◌, ℕ, Bool, true, false, List, [], ◌∷◌, length, Option, Some, None, is_some, if◌then◌else◌, ◌==◌}
 use Rattle.tx_change.specs.Exchange.{object_of}
 use Rattle.tx_change.specs.States.{changed_by}
@@ -65,7 +65,7 @@ kept_of c = record {
   held = λ n. (kept_for c (c.owner (Held n))).held n;
 }
 
--- the kernel of two states that this is
+-- the kernel of two states that this gives
 abbrev pub two_states_of : LogKernel → TwoStates
 two_states_of c = record { now = c.now; kept = kept_of c; owner = c.owner; table = c.table }
 
@@ -78,11 +78,11 @@ is_named o (change ∷ changes) = if same_object o (object_of change) then true 
 abbrev pub OthersHoldNothing : LogKernel → Type 0
 OthersHoldNothing c = (s : ℕ) → c.txns s ≡ None → c.now.held s ≡ []
 
--- what is so of every content
+-- what holds for every content
 pub record IsKept (c : LogKernel) : Type 0 where
   -- the live transactions are those of the table
   pub live : (s : ℕ) → is_some (c.txns s) ≡ is_live c.table s
-  -- what a log names its transaction owns
+  -- its transaction owns what a log names
   pub named : (s : ℕ) (t : Txn) → c.txns s ≡ Some t → (o : Object) → is_named o t.log ≡ true → c.owner o ≡ Some s
   -- without its transaction, a starter would run with the ids that are kept
   pub starter : (s : ℕ) (t : Txn) → c.txns s ≡ Some t → face_of ((kept_of c).procs s) ≡ Some (running t.ids)
@@ -93,14 +93,14 @@ pub record IsKept (c : LogKernel) : Type 0 where
 abbrev pub start_content : State → LogKernel
 start_content S = record { now = S; txns = λ s. None; owner = λ o. None; table = empty_table S.width }
 
--- whether a send of the event to the starter s of the transaction is answered otherwise now than after an abort
+-- whether a send of the event to the starter s of the transaction is answered differently now than after an abort
 abbrev pub starter_differs : LogKernel → Event → ℕ → Txn → Bool
 starter_differs c ev s t =
     faces_differ s (effect ev c.now).sends
     (face_of (c.now.procs s)) (length (pending_in (c.now.procs s)).queued)
     (Some (running t.ids)) (length t.pending.queued)
 
--- whether the transaction of s, if it is there, is in the way of the event
+-- whether the transaction of s, if there is one, is in the way of the event
 abbrev pub stands_in_way : LogKernel → Event → ℕ → Option Txn → Bool
 stands_in_way c ev s None = false
 stands_in_way c ev s (Some t) =

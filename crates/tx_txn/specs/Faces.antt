@@ -1,4 +1,4 @@
--- What of a process decides how a post to it is answered, and what posts leave as pending. Own rules.
+-- What decides how a post to a process is answered, and what posts leave as pending. Own rules.
 use Rattle.std.specs.Prelude.{ℕ, ◌+◌, Bool, true, false, ◌||◌, List, [], ◌∷◌, ℤ, pos, negsuc, Option, Some, None, is_some, if◌then◌else◌, nat_lt, ◌==◌}
 use Rattle.std.specs.Ordering.{int_eq}
 use Rattle.tx_base.specs.declared.limits.TheConstants.{QUEUED}
@@ -7,12 +7,12 @@ use Rattle.tx_model.specs.SignalSets.{is_realtime}
 use Rattle.tx_model.specs.State.{Ids, Process, Sending}
 use Rattle.tx_signal.specs.Parts.{PendingView, alone, pending_of}
 
--- what a post asks of its target, the length of the queue apart
+-- what a post asks of its target, except the length of the queue
 pub record Face : Type 0 where
   pub ids : Ids
   pub ended : Bool
 
--- the face of a process, if it is there
+-- the face of a process, if there is one
 abbrev pub face_of : Option Process → Option Face
 face_of None = None
 face_of (Some q) = Some (record { ids = q.ids; ended = is_some q.status })
@@ -21,12 +21,12 @@ face_of (Some q) = Some (record { ids = q.ids; ended = is_some q.status })
 abbrev pub running : Ids → Face
 running ids = record { ids = ids; ended = false }
 
--- what is pending at a process: nothing, if it is not there
+-- what is pending at a process: nothing, if there is none
 abbrev pub pending_in : Option Process → PendingView
 pending_in None = record { standard = 0; queued = [] }
 pending_in (Some q) = pending_of q
 
--- whether a signal that is let through changes nothing
+-- whether a signal that may be sent changes nothing
 abbrev pub is_quiet_at : Sending → Face → Bool
 is_quiet_at m face = m.signo == 0 || (m.target == 1 || face.ended)
 
@@ -41,7 +41,7 @@ unfoldable pub pending_by : ℕ → List Sending → Option Face → PendingView
 pending_by s [] face view = view
 pending_by s (m ∷ ms) face view = pending_by s ms face (if m.target == s then pending_after m face view else view)
 
--- the answer of a post where so many are queued
+-- the answer of a post with this many queued
 abbrev pub answer_at : Sending → Option Face → ℕ → ℤ
 answer_at m None queued = negsuc 2
 answer_at m (Some face) queued =
@@ -57,8 +57,8 @@ queued_after m (Some face) queued =
     then (if is_quiet_at m face then queued else (if is_realtime m.signo then (if nat_lt queued QUEUED then queued + 1 else queued) else queued))
     else queued
 
--- whether a send to process s is answered otherwise at the one face than at the other, one send after another: each has its
--- own count of what is queued
+-- whether a send to process s is answered differently at the two faces, one send after another, each face with its own count of what is
+-- queued
 unfoldable pub faces_differ : ℕ → List Sending → Option Face → ℕ → Option Face → ℕ → Bool
 faces_differ s [] one first other second = false
 faces_differ s (m ∷ ms) one first other second =

@@ -14,7 +14,7 @@ pub record Held : Type 0 where
 abbrev pub unmade : HeldPost
 unmade = record { answer = Ok tt; change = None; kept = None }
 
--- of a signal and how its post was answered: one more that was not delivered, where that was an error
+-- for a signal and how its post was answered: one more that was not delivered, if that was an error
 abbrev pub with_missed : Sending → Result (Unit {0}) Errno → List Missed → List Missed
 with_missed sending (Ok _) rest = rest
 with_missed sending (Err errno) rest = record { target = sending.target; signo = sending.signo; errno = errno } ∷ rest

@@ -16,7 +16,7 @@ use Rattle.tx_txn.specs.declared.txn.Txn.{Txn}
 abbrev pub none_held : Held
 none_held = record { sendings = []; posts = [] }
 
--- what a step of a member is made inside of, where these are the marks
+-- what a step of a member is made inside, with these marks
 abbrev pub inside_at : Txn → List (Option Mark) → Inside
 inside_at txn marks = record { starter = txn.starter.0; members = λ n. is_of txn.starter.0 (slot_at marks n); defers = txn.defers }
 

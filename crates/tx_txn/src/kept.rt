@@ -1,4 +1,4 @@
-//! What is kept of the process that began a transaction, apart from the log.
+//! What is kept of the process that began a transaction, beside the log.
 ghost use Rattle.std.specs.Prelude.{◌≡◌, ◌<◌, Some};
 ghost use Rattle.tx_kernel.specs.Plans.{sending_of};
 ghost use Rattle.tx_kernel.specs.Posts.{HasFace};
@@ -35,12 +35,12 @@ pub enum Unpost {
     Queued(usize),
 }
 
-/// What a post had put that was taken back, so that it can be made again.
+/// What a post that was taken back had put, so that it can be made again.
 #[derive(Clone, Copy)]
 pub enum Repost {
     /// The standard signals that were pending after it.
     Standard(SigSet),
-    /// The place of the queue, and the entry that stood there.
+    /// The place of the queue, and the entry that was there.
     Queued(usize, Option<Queued>),
 }
 
@@ -56,7 +56,7 @@ impl Kept {
         }
     }
 
-    /// Keeps the same of another process, in the place of what it kept.
+    /// Keeps the same of another process, in place of what it kept.
     pub fn keep(&mut self, proc: &Proc)
         ensures ids { self.new.ids ≡ proc.now.cred }
         ensures pending { self.new.pending ≡ proc.now.pending }
@@ -68,7 +68,7 @@ impl Kept {
         }
     }
 
-    /// What of the process decides how a post to it is answered after an abort.
+    /// What decides how a post to the process is answered after an abort.
     pub fn face(&self) -> Face
         ensures { (me : Process) → HasFace result (kept_as self.now me) }
     {
@@ -87,7 +87,7 @@ impl Kept {
     }
 
     /// Posts a signal, whose number must be below 64, as it would be after an abort. Answers what
-    /// takes the post back, where it changed anything.
+    /// takes the post back, if it changed anything.
     pub fn post(&mut self, sending: &Sending) -> Option<Unpost>
         requires { sending.now.signo.0 < 64 }
         ensures received { (me : Process) →
@@ -115,7 +115,7 @@ impl Kept {
         }
     }
 
-    /// Takes the last post back. Answers what makes it again.
+    /// Takes back the last post. Answers what makes it again.
     pub fn unpost(&mut self, unpost: Unpost) -> Repost
         ensures ids { self.new.ids ≡ self.old.ids }
         ensures pending { self.new.pending ≡ unposted (Some unpost) self.old.pending }
@@ -136,7 +136,7 @@ impl Kept {
         }
     }
 
-    /// Makes a post again that was taken back.
+    /// Makes again a post that was taken back.
     pub fn repost(&mut self, posted: Repost)
         ensures ids { self.new.ids ≡ self.old.ids }
         ensures pending { self.new.pending ≡ posted_again posted self.old.pending }

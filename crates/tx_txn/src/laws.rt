@@ -4,7 +4,7 @@ ghost use Rattle.tx_txn.specs.Laws.{ContentFollowsRole, ContentFollowsStep, Cont
 use tx_change::{appended, changes_state, lists_change_state, revert_then_apply, twice_is_nothing};
 use tx_laws::{answers_of_states, locality, step_by_step, two_states};
 
-/// The laws that those of contents stand on. It does nothing.
+/// The laws that those of contents use. It does nothing.
 fn role_laws()
     ensures { RoleLaws }
 {
@@ -16,7 +16,7 @@ fn role_laws()
     lists_change_state();
 }
 
-/// The laws that those of logs stand on. It does nothing.
+/// The laws that those of logs use. It does nothing.
 fn log_laws()
     ensures { LogLaws }
 {
@@ -26,9 +26,9 @@ fn log_laws()
     revert_then_apply();
 }
 
-/// A content of logs and kept signals has the next view after a step in each role, of which it reads no
-/// more on the kept side than what is pending at live starters, and their ids; and what is so of every
-/// content is so of the next one, as long as nothing is held where no transaction is live.
+/// A content of logs and kept signals has the next view after a step in each role, which reads on
+/// the kept side only what is pending at live starters, and their ids. What holds for every content
+/// holds for the next one, if nothing is held where no transaction is live.
 pub fn logs_keep()
     ensures role { ContentFollowsRole }
     ensures kept { ContentIsKept }
@@ -37,10 +37,10 @@ pub fn logs_keep()
     role_laws();
 }
 
-/// What the exchanges of a step took leads the state back, where each names an object that the step
-/// reserves. A log that was led back, with the kept pending part put at the starter, leads the state back
-/// by the transaction; and with the pending parts exchanged once more and the log put forward again, the
-/// parts are as they were.
+/// What the exchanges of a step took leads the state back, if each names an object that the step
+/// reserves. A log that was led back, with the kept pending part put at the starter, leads the
+/// state back by the transaction. With the pending parts exchanged once more and the log led
+/// forward again, the parts are as they were.
 pub fn logs_lead_back()
     ensures step { StepLeadsBack }
     ensures abort { LogLeadsBack }
@@ -49,8 +49,8 @@ pub fn logs_lead_back()
     log_laws();
 }
 
-/// What tx_kernel made on the parts is its event: it makes of the state what the event makes of it, and
-/// where a member made it, its records are what the log of a step inside a transaction is to get.
+/// What tx_kernel made on the parts is its event: it changes the state as the event does, and if a
+/// member made it, its records are what the log of a step inside a transaction must get.
 pub fn events_are_made()
     ensures state { EventIsMade }
     ensures logged { EventIsLogged }
@@ -58,16 +58,16 @@ pub fn events_are_made()
     log_laws();
 }
 
-/// What an event does to a process that is no object of it: nothing but to what is pending there.
+/// An event changes a process that is no object of it only in what is pending there.
 pub fn events_leave_rest()
     ensures { EventLeavesRest }
 {
     role_laws();
 }
 
-/// What a post does at its target, by the target's face, which are its ids and whether it has ended, and
-/// by what is pending: its answer and how many signals are queued then depend on the length of the queue
-/// alone, and the face stays.
+/// What a post does at its target, by the target's face, which are its ids and whether it has
+/// ended, and by what is pending: its answer and how many signals are queued then depend only on
+/// the length of the queue, and the face stays.
 pub fn posts_by_faces()
     ensures pending { PostLeavesPending }
     ensures face { PostLeavesFace }
@@ -88,8 +88,8 @@ pub fn answers_of_faces()
     role_laws();
 }
 
-/// The content at the start, in which no transaction is live, has the view of the empty history; and what
-/// is so of every content is so of it, where nothing is held.
+/// The content at the start, in which no transaction is live, has the view of the empty history;
+/// and what holds for every content holds for it, if nothing is held.
 pub fn start_is_kept()
     ensures view { StartContentHasItsView }
     ensures kept { StartContentIsKept }

@@ -9,8 +9,8 @@ ghost use Rattle.tx_txn.specs.Marks.{IsCovered, ended_of, mark_of, table_at};
 use tx_base::{Mark, Pid, Slots};
 use tx_reserve::{Object, Objects, is_other_open};
 
-/// Who the members of a transaction were as it ended, and whose part had ended, so that their marks
-/// can be put back.
+/// Who the members of a transaction were when it ended, and whose part had ended, so that their
+/// marks can be put back.
 #[derive(Clone, Copy)]
 pub struct Members {
     pub joined: Objects,
@@ -29,8 +29,8 @@ impl Members {
         }
     }
 
-    /// Takes the marks of a starter's transaction out, whose members are among the objects. It goes over
-    /// these objects, and not over the table.
+    /// Takes out the marks of a starter's transaction, whose members are among the objects. It goes
+    /// over these objects, not over the table.
     pub fn take(marks: &mut Slots<Mark>, starter: Pid, objects: &Objects) -> Members
         requires { IsCovered starter.0 marks.old objects.now }
         ensures marks { (n : ℕ) →
@@ -49,7 +49,7 @@ impl Members {
         members
     }
 
-    /// Takes the mark of a number out, if it is one of that starter's transaction.
+    /// Takes out the mark of a number, if it is one of that starter's transaction.
     fn take_one(&mut self, marks: &mut Slots<Mark>, starter: Pid, pid: Pid)
         requires { pid.0 ≤ 256 }
         ensures marks { (n : ℕ) →
@@ -78,8 +78,8 @@ impl Members {
         let _taken = marks.take(pid);
     }
 
-    /// Puts the marks of a starter's transaction back that were taken out. The members' numbers must be
-    /// ones that there are.
+    /// Puts back the marks of a starter's transaction that were taken out. The members' numbers
+    /// must be in range.
     pub fn put_back(&self, marks: &mut Slots<Mark>, starter: Pid, defers: bool)
         requires { (n : ℕ) → is_in self.now.joined (Proc n) ≡ true → n ≤ length marks.old }
         ensures marks { (n : ℕ) →
@@ -93,7 +93,7 @@ impl Members {
         }
     }
 
-    /// Puts the mark of a member back.
+    /// Puts back the mark of a member.
     fn put_one(&self, marks: &mut Slots<Mark>, starter: Pid, pid: Pid, defers: bool)
         requires low { 1 ≤ pid.0 }
         requires high { pid.0 ≤ length marks.old }
@@ -112,8 +112,8 @@ impl Members {
     }
 }
 
-/// Whether this member is the last of a starter's transaction whose part is open, or no other one's is.
-/// All members must be among the objects. It goes over these, and not over the table.
+/// Whether this member is the last of a starter's transaction whose part is open, or no other's is.
+/// All members must be among the objects. It goes over these, not over the table.
 pub fn is_last_open(marks: &Slots<Mark>, starter: Pid, pid: Pid, objects: &Objects) -> bool
     requires { IsCovered starter.0 marks.now objects.now }
     ensures { result ≡ not (others_open (table_at marks.now) starter.0 pid.0 (length marks.now)) }

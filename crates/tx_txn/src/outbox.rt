@@ -18,9 +18,10 @@ use tx_change::Change;
 pub struct HeldPost {
     /// How the post was answered.
     pub answer: Result<(), Errno>,
-    /// What was pending at the target before, where that changed.
+    /// What was pending at the target before, if that changed.
     pub change: Option<Change>,
-    /// What was kept of the target before, where it is the starter of another transaction and that changed.
+    /// What was kept of the target before, if it is the starter of another transaction and that
+    /// changed.
     pub kept: Option<Unpost>,
 }
 
@@ -99,7 +100,7 @@ impl Outbox {
         self.sent
     }
 
-    /// Holds one more signal. After want of memory the outbox is as it was.
+    /// Holds one more signal. If memory is refused, the outbox is as it was.
     pub fn hold(&mut self, sending: Sending) -> Result<(), NoMemory>
         ensures sendings { OnOk result (self.new.sendings ≡ self.old.sendings ++ sending ∷ []) }
         ensures posts { OnOk result (self.new.posts ≡ self.old.posts ++ unmade ∷ []) }
@@ -114,7 +115,7 @@ impl Outbox {
         Ok(())
     }
 
-    /// Forgets the last signal, and answers it. Nothing happens where none is held.
+    /// Forgets the last signal, and answers it. Nothing happens if none is held.
     pub fn forget_last(&mut self) -> Option<Sending>
         ensures sendings { self.new.sendings
             ≡ take (length self.old.sendings - 1) self.old.sendings }

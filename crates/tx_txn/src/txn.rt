@@ -87,7 +87,7 @@ impl Txn {
         self.members = None;
     }
 
-    /// Lets go of all that it owns but for the room that it has.
+    /// Drops all that it owns, but keeps its room.
     pub fn clear(&mut self)
         ensures log { self.new.log ≡ [] }
         ensures outbox { self.new.outbox ≡ none_held }
@@ -96,8 +96,9 @@ impl Txn {
         self.outbox.clear();
     }
 
-    /// Reserves what a step of a member names. Answers what was reserved before, which the owners must
-    /// have as the starter's. Most often that is all that the step names, and nothing is to be done.
+    /// Reserves what a step of a member names. Answers what was reserved before, which the owners
+    /// must have as the starter's. Most often that is all that the step names, and there is nothing
+    /// to do.
     pub fn reserve(&mut self, owners: &mut Reservations, objects: &Objects) -> Objects
         requires { Owns self.old.starter.0 owners.old self.old.objects }
         ensures before { result ≡ self.old.objects }
@@ -146,8 +147,8 @@ impl Txn {
         before
     }
 
-    /// Ends the transaction, whose members are among its objects: its marks are taken out, and what it
-    /// reserved is nobody's. It takes no memory, and goes over its objects alone.
+    /// Ends the transaction, whose members are among its objects: its marks are taken out, and what
+    /// it reserved is nobody's. It takes no memory, and goes only over its objects.
     pub fn end(&mut self, marks: &mut Slots<Mark>, owners: &mut Reservations)
         requires { IsCovered self.old.starter.0 marks.old self.old.objects }
         ensures marks { (n : ℕ) →
@@ -168,7 +169,7 @@ impl Txn {
         owners.release(&self.objects);
     }
 
-    /// Takes the end back: the marks of its members are put back, and what it reserved is its own.
+    /// Takes back the end: the marks of its members are put back, and what it reserved is its own.
     pub fn revive(&mut self, marks: &mut Slots<Mark>, owners: &mut Reservations)
         requires { IfSome self.old.members (λ members.
             (n : ℕ) → is_in members.joined (Proc n) ≡ true → n ≤ length marks.old) }
@@ -191,8 +192,8 @@ impl Txn {
     }
 
     /// Leads the transaction back: all parts that its log names are as they were when it began, and
-    /// what is pending at the starter is what was kept. The log then has what was there, and what is
-    /// kept the pending signals that the log led to. It takes no memory.
+    /// what is pending at the starter is what was kept. The log then has what was there, and what
+    /// is kept is the pending signals that the log led to. It takes no memory.
     pub fn lead_back(&mut self, parts: &mut Parts)
         requires low { 1 ≤ self.old.starter.0 }
         requires high { self.old.starter.0 ≤ length parts.old.procs }
@@ -219,7 +220,7 @@ impl Txn {
         }
     }
 
-    /// Whether nothing was pending at the starter when it began, and nothing is now: to exchange
+    /// Whether nothing was pending at the starter when it began, and nothing is now: exchanging
     /// these changes nothing.
     fn has_none_pending(&self, parts: &Parts) -> bool
         ensures { IsTrue result →
@@ -235,7 +236,7 @@ impl Txn {
         }
     }
 
-    /// Makes all again that was led back.
+    /// Makes again all that was led back.
     pub fn lead_forward(&mut self, parts: &mut Parts)
         requires low { 1 ≤ self.old.starter.0 }
         requires high { self.old.starter.0 ≤ length parts.old.procs }
@@ -258,7 +259,7 @@ impl Txn {
         self.log.lead_forward(parts);
     }
 
-    /// What a step is made inside of, for the calls of a member.
+    /// What a step is made inside, for the calls of a member.
     pub fn inside<'a>(&self, marks: &'a Slots<Mark>) -> Inside<'a>
         ensures transaction { transaction_of result ≡ inside_at self.now marks.now }
         ensures held { result.held ≡ member_sends (map sending_of self.now.outbox.sendings) }

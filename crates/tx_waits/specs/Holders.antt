@@ -34,7 +34,7 @@ abbrev pub names_end : State → ℕ → Side → Option ℕ → Bool
 names_end S k side None = false
 names_end S k side (Some d) = is_end k side (S.descs d)
 
--- what there is of each number below a limit, in rising order
+-- what each number below a limit has, in rising order
 unfoldable pub each_below : {A : Type 0} → (ℕ → List A) → ℕ → List A
 each_below some zero = []
 each_below some (suc limit) = each_below some limit ++ some limit
@@ -53,7 +53,7 @@ is_sought S (Desc d) name = names_desc d.0 name
 abbrev pub holder_at : (Option ℕ → Bool) → State → ℕ → ℕ → List Holder
 holder_at sought S p f = if sought (named_by f (S.procs p)) then record { process = p; descriptor = f } ∷ [] else []
 
--- all descriptors of a process, and of all processes, of which that is so
+-- all such descriptors of a process, and of all processes
 abbrev pub holders_in : (Option ℕ → Bool) → State → ℕ → List Holder
 holders_in sought S p = each_below (holder_at sought S p) DESCRIPTORS
 
@@ -68,25 +68,25 @@ holders S side k = holders_by (λ name. names_end S k side name) S
 abbrev pub desc_holders : State → ℕ → List Holder
 desc_holders S d = holders_by (λ name. names_desc d name) S
 
--- the side for which a step that reads or writes waits: that of who could end its wait
+-- the side that a step that reads or writes waits for: that of those who could end its wait
 abbrev pub other_side : Step → Option Side
 other_side (steps.Call p (calls.Read fd address count)) = Some WriteSide
 other_side (steps.Call p (calls.Write fd address count)) = Some ReadSide
 other_side step = None
 
 module _ (V : View) (step : Step) where
-  -- who has that side of pipe k open, where the step names it
+  -- who has that side of pipe k open, if the step names it
   abbrev pub named_holders : Side → ℕ → List Holder
   named_holders side k = if has_object (object_in Pipes k) (footprint V.table step (present V)) then holders (present V) side k else []
 
   abbrev pub side_holders : Side → List Holder
   side_holders side = each_below (named_holders side) (limit_of Pipes)
 
-  -- who has the other side of its pipe open, where it reads or writes
+  -- who has the other side of its pipe open, if it reads or writes
   abbrev pub other_holders : Option (List Holder)
   other_holders = option_map side_holders (other_side step)
 
-  -- who could end its wait, where it is answered that it waits
+  -- who could end its wait, if it waits
   abbrev pub awaited_by : Reply → Option (List Holder)
   awaited_by (No Wait) = other_holders
   awaited_by reply = None

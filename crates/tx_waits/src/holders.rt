@@ -25,7 +25,7 @@ use tx_json::Holder;
 use tx_proc::Proc;
 use tx_reserve::Objects;
 
-/// What descriptors may name, and by which they are sought.
+/// What descriptors may name, by which they are searched for.
 #[derive(Clone, Copy)]
 pub enum Sought {
     /// A side of the pipe of a number.
@@ -34,9 +34,9 @@ pub enum Sought {
     Desc(DescNo),
 }
 
-/// Each descriptor by which the wait of a step could end that would get this reply: those that are open
-/// for the other side of the pipe that it reads or writes, by rising processes and descriptors. Nothing
-/// where it does not wait so. The only error is that a growth of memory was refused.
+/// Each descriptor that could end the wait of a step with this reply: those that are open for the
+/// other side of the pipe that it reads or writes, by rising processes and descriptors. None if it
+/// does not wait for a pipe. The only error is that a growth of memory was refused.
 pub fn awaited_holders(
     alloc: Global,
     machine: &Machine,
@@ -54,7 +54,7 @@ pub fn awaited_holders(
     }
 }
 
-/// The side of its pipe for which a step waits. Nothing where it neither reads nor writes.
+/// The side of its pipe that a step waits for. None if it neither reads nor writes.
 fn other_side(step: &Step) -> Option<Side>
     ensures { option_map end_for result ≡ other_side step.now }
 {
@@ -83,7 +83,7 @@ fn side_holders(
     Ok(found)
 }
 
-/// Appends each descriptor that is open for a side of the pipe of a number, where the step names that.
+/// Appends each descriptor that is open for a side of the pipe of a number, if the step names it.
 fn add_named(
     found: &mut Vec<Holder>,
     machine: &Machine,

@@ -15,7 +15,7 @@ pub enum Kind {
 }
 
 impl Kind {
-    /// What the numbers of the kind are below: processes are 1 to 256, descriptions 0 to 63, pipes 0 to
+    /// The limit of the kind's numbers: processes are 1 to 256, descriptions 0 to 63, pipes 0 to
     /// 31.
     pub fn limit(self) -> u16
         ensures { result ≡ limit_of self }
@@ -39,7 +39,7 @@ impl Kind {
         }
     }
 
-    /// What an object of the kind is called in the text of a state, with a space behind.
+    /// What an object of the kind is called in the text of a state, with a space after it.
     pub fn word(self) -> &'static str
         ensures { result.now ≡ word_of self }
     {

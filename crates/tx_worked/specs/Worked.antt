@@ -9,20 +9,21 @@ use Rattle.tx_model.specs.State.{State, booted_process, boot_state}
 use Rattle.tx_model.specs.Schedules.{answers_of}
 use Rattle.tx_worked.specs.WorkedSteps.{calls, kernel, store, fork, kill, ok, error, committed, state_after, standing, with_one_pending}
 
--- a transaction that maps a page and stores into it, and takes itself back
+-- a transaction that maps a page, stores into it, and aborts itself
 abbrev pub taken_back : List Step
 taken_back = calls 2 SysXbegin ∷ calls 2 (Map (pos 0)) ∷ calls 2 (store (pos 5) (65 ∷ [])) ∷ calls 2 SysXabort ∷ []
 
 abbrev pub TakenBackAnswers : Type 0
 TakenBackAnswers = answers_of (boot_state 64 2) [] taken_back ≡ ok 0 ∷ ok 0 ∷ ok 0 ∷ Aborted 201 ∷ []
 
--- its process stands behind its sys_xbegin with the status as an error, and has no page; the other is as booted
+-- its process is after its sys_xbegin with the status as an error, and has no page; the other is as
+-- booted
 abbrev pub TakenBackState : Type 0
 TakenBackState =
     ((state_after (boot_state 64 2) taken_back).procs 2 ≡ Some (standing 2 1 (negsuc 200) no_memory))
     × ((state_after (boot_state 64 2) taken_back).procs 1 ≡ Some (booted_process 1))
 
--- two transactions side by side: the kernel takes that of process 3 back, and that of process 2 commits
+-- two transactions side by side: the kernel aborts that of process 3, and that of process 2 commits
 abbrev pub side_by_side : List Step
 side_by_side =
     calls 2 SysXbegin
@@ -66,8 +67,8 @@ SideBySideState =
     × ((state_after (boot_state 64 3) side_by_side).procs 2 ≡ Some (standing 2 6 (pos 0) stored_page))
     × ((state_after (boot_state 64 3) side_by_side).procs 3 ≡ Some (standing 3 2 (negsuc 21) no_memory))
 
--- a transaction does not begin in another one, nor end where there is none; the kernel aborts it by its starter's number
--- alone, and any member aborts it
+-- a transaction does not begin in another one, nor end where there is none; the kernel aborts it
+-- only by its starter's number, and any member aborts it
 abbrev pub out_of_place : List Step
 out_of_place =
     calls 2 SysXend
@@ -99,7 +100,7 @@ OutOfPlaceAnswers =
     ∷ No NoTransaction
     ∷ []
 
--- a transaction that its starter begins again after it was taken back, and commits
+-- a transaction that its starter begins again after an abort, and commits
 abbrev pub begun_again : List Step
 begun_again =
     calls 2 SysXbegin

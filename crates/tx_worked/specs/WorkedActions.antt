@@ -34,7 +34,7 @@ CaughtBackState =
     (state_after (boot_state 64 3) caught_back).procs 2
     ≡ Some (with_one_action 10 (Catch 40 (record { 0 = 4096 })) (standing 2 1 (pos 0) no_memory))
 
--- four caught signals may be unfinished: the fifth one has to wait for a return
+-- four caught signals may be unfinished: the fifth one must wait for a return
 abbrev pub full_frames : List Step
 full_frames =
     calls 2 (catch 1 10 0)
@@ -191,9 +191,9 @@ CatchPointsState =
     ≡ Some (with_one_action 10 (Catch 65535 (record { 0 = 4096 }))
     (with_mask 5120 (with_frames (saved_at 2 ∷ []) (standing 2 65535 (pos 0) no_memory))))
 
--- signals are blocked too, blocked no more, or blocked and no others: of 1, 10, 12 and 15, which are pending, first 10
--- and 12 are blocked (5,120), then 15 too (32,768), then 12 no more (4,096), then 1 alone (2), and then 12 alone, since
--- 4 is not known and 9 is SIGKILL
+-- signals are blocked too, no longer blocked, or blocked and no others: of 1, 10, 12 and 15, which
+-- are pending, first 10 and 12 are blocked (5,120), then 15 too (32,768), then 12 no more (4,096),
+-- then only 1 (2), and then only 12, since 4 is not known and 9 is SIGKILL
 abbrev pub masks : List Step
 masks =
     calls 3 (kill 2 1)

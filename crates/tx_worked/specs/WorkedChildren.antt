@@ -1,5 +1,5 @@
--- Schedules of children: what they start with, who their parent is, and how their end is told, worked out to the end.
--- Own rules.
+-- Schedules of children: what they start with, who their parent is, and how their end is reported,
+-- worked out to the end. Own rules.
 use Rattle.std.specs.Prelude.{◌≡◌, true, false, List, [], ◌∷◌, pos, negsuc, Some, None, replicate}
 use Rattle.tx_base.specs.declared.signals.Action.TheVariants.{Ignore, Catch}
 use Rattle.tx_base.specs.declared.steps.Call.TheVariants.{Map, Exit, Waitpid, Getppid, Setuid, Sigaction, Sigpending, SysXbegin}
@@ -71,7 +71,8 @@ OrphansState =
     let S : State = state_after (boot_state 64 1) orphans in
     (S.procs 1 ≡ Some (with_slots (pos 7 ∷ replicate 7 (pos 0)) (standing 1 4 (pos 4) no_memory))) × (S.procs 4 ≡ None)
 
--- a child that a signal ended: the status says so, and the parent is told; there is no waiting for a number of no child
+-- a child that a signal ended: the status says so, and the parent gets SIGCHLD; there is no waiting
+-- for a number of no child
 abbrev pub killed_child : List Step
 killed_child =
     calls 2 (block 131072)

@@ -24,7 +24,7 @@ abbrev pub UndecidedKillAnswers : Type 0
 UndecidedKillAnswers =
     answers_of (boot_state 64 3) [] undecided_kill ≡ ok 0 ∷ ok 0 ∷ ok 0 ∷ busy_with 2 ∷ Aborted 201 ∷ error 1 ∷ []
 
--- two transactions wait for a description of each other, until the kernel takes one back
+-- two transactions wait for a description of each other, until the kernel aborts one
 abbrev pub crossed : List Step
 crossed =
     calls 1 (pipe 0 0 1)
@@ -96,7 +96,7 @@ ForkedDescriptionAnswers =
     answers_of (boot_state 64 1) [] forked_description
     ≡ ok 0 ∷ ok 2 ∷ ok 3 ∷ ok 0 ∷ ok 0 ∷ busy_with 2 ∷ committed ∷ ok 4 ∷ []
 
--- a process may not end while a transaction has asked for its parent, which would be told
+-- a process may not end while a transaction has reserved its parent, which would be notified
 abbrev pub reserved_parent : List Step
 reserved_parent =
     calls 2 (fork 4)
@@ -111,7 +111,7 @@ abbrev pub ReservedParentAnswers : Type 0
 ReservedParentAnswers =
     answers_of (boot_state 64 3) [] reserved_parent ≡ ok 4 ∷ ok 0 ∷ error 10 ∷ busy_with 3 ∷ committed ∷ Ended ∷ []
 
--- of two transactions that are in the way, that of the least starter is named, whichever began first
+-- of two transactions in the way, that of the least starter is named, whichever began first
 abbrev pub least_starter_in_way : List Step
 least_starter_in_way =
     calls 2 (fork 3)

@@ -37,7 +37,7 @@ LowestFirstState =
     × (S.descs 3 ≡ described 1 WriteSide false)
     × (S.pipes 0 ≡ Some [])
 
--- sixteen descriptors are open at most; a pipe takes two or none
+-- at most sixteen descriptors are open; a pipe takes two or none
 abbrev pub full_table : List Step
 full_table =
     calls 1 (pipe 0 0 1)

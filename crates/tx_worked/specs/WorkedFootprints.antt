@@ -1,4 +1,5 @@
--- Schedules of what each step asks for, worked out to the end: what a transaction reserved is in the way of it. Own rules.
+-- Schedules of what each step names, worked out to the end: what a transaction reserved is in its
+-- way. Own rules.
 use Rattle.std.specs.Prelude.{◌≡◌, true, false, List, [], ◌∷◌, ◌++◌, pos}
 use Rattle.tx_base.specs.declared.steps.Call.TheVariants.{Map, Exit, Waitpid, Dup, Dup2, Close, SetNonblock, Read, Write, Getpid, SysXbegin, SysXbeginDefer, SysXend, SysXabort}
 use Rattle.tx_base.specs.declared.steps.Refusal.TheVariants.{NotDeliverable, Deferred}
@@ -13,8 +14,8 @@ abbrev pub shared_pipe : List Step
 shared_pipe =
     calls 1 (Map (pos 0)) ∷ calls 1 (pipe 0 0 1) ∷ calls 1 (fork 2) ∷ calls 1 (fork 3) ∷ calls 3 (Close (pos 1)) ∷ []
 
--- a transaction has changed the flag of the read side: what names that description is refused, the wrong descriptor of
--- a dup2 or a read of no byte notwithstanding
+-- a transaction has changed the flag of the read side: what names that description is refused, also
+-- a dup2 with a wrong descriptor and a read of no byte
 abbrev pub changed_description : List Step
 changed_description =
     shared_pipe
@@ -79,8 +80,8 @@ ChangedWriterAnswers =
     answers_of (boot_state 64 1) [] changed_writer
     ≡ ok 0 ∷ ok 0 ∷ ok 2 ∷ ok 3 ∷ ok 0 ∷ ok 0 ∷ ok 0 ∷ busy_with 2 ∷ ok 0 ∷ []
 
--- a transaction has written to the pipe: what names the pipe by its other side is refused, a close that is not the last
--- one notwithstanding. A dup and a flag name the description alone
+-- a transaction has written to the pipe: what names the pipe by its other side is refused, also a
+-- close that is not the last one. A dup and a flag name only the description
 abbrev pub written_pipe : List Step
 written_pipe =
     shared_pipe
@@ -120,7 +121,8 @@ WrittenPipeAnswers =
     ∷ committed
     ∷ []
 
--- a transaction has copied a descriptor to itself, which names the description alone: the pipe is free to be written
+-- a transaction has copied a descriptor to itself, which names only the description: the pipe may
+-- be written
 abbrev pub same_descriptor : List Step
 same_descriptor =
     calls 1 (Map (pos 0))
@@ -136,7 +138,8 @@ abbrev pub SameDescriptorAnswers : Type 0
 SameDescriptorAnswers =
     answers_of (boot_state 64 1) [] same_descriptor ≡ ok 0 ∷ ok 0 ∷ ok 2 ∷ ok 0 ∷ ok 0 ∷ ok 1 ∷ busy_with 2 ∷ []
 
--- a transaction has read from the pipe, if only no byte: a write is refused, and a close of the write side
+-- a transaction has read from the pipe, be it no byte: a write is refused, and a close of the write
+-- side
 abbrev pub read_pipe : List Step
 read_pipe =
     shared_pipe
@@ -188,8 +191,8 @@ ChosenNumbersAnswers =
     ∷ ok 8
     ∷ []
 
--- a transaction has asked for a process: its own steps are refused, waits for it, and signals to it, 0 too; an unknown
--- signal is not sent to it
+-- a transaction has reserved a process: its own steps are refused, waits for it, and signals to it,
+-- also 0; an unknown signal is not sent to it
 abbrev pub asked_for : List Step
 asked_for =
     calls 3 SysXbegin
@@ -208,7 +211,7 @@ AskedForAnswers =
     answers_of (boot_state 64 3) [] asked_for
     ≡ ok 0 ∷ error 10 ∷ busy_with 3 ∷ busy_with 3 ∷ busy_with 3 ∷ busy_with 3 ∷ error 22 ∷ Aborted 201 ∷ ok 0 ∷ []
 
--- a member that is no starter is signalled by no other process, and its starter is
+-- a member that is no starter can't be signalled by other processes, and its starter can
 abbrev pub signalled_member : List Step
 signalled_member =
     calls 2 SysXbegin
@@ -225,7 +228,7 @@ SignalledMemberAnswers =
     answers_of (boot_state 64 3) [] signalled_member
     ≡ ok 0 ∷ ok 7 ∷ busy_with 2 ∷ busy_with 2 ∷ ok 0 ∷ Aborted 201 ∷ error 3 ∷ []
 
--- a commit asks for the targets of what it held, which were free to go on meanwhile
+-- a commit names the targets of what it held, which were free to go on meanwhile
 abbrev pub reserved_target : List Step
 reserved_target =
     calls 2 SysXbegin
@@ -243,8 +246,8 @@ ReservedTargetAnswers =
     answers_of (boot_state 64 4) [] reserved_target
     ≡ ok 0 ∷ ok 0 ∷ ok 3 ∷ ok 0 ∷ error 10 ∷ busy_with 4 ∷ committed ∷ committed ∷ []
 
--- the parent of a starter is told at the commit, and asked for only then: by the exit of the starter where that commits,
--- else by the step that does
+-- the parent of a starter gets SIGCHLD at the commit, and is named only then: by the exit of the
+-- starter where that commits, else by the step that does
 abbrev pub told_at_commit : List Step
 told_at_commit =
     calls 2 (fork 4)
@@ -264,8 +267,8 @@ ToldAtCommitAnswers =
     answers_of (boot_state 64 3) [] told_at_commit
     ≡ ok 4 ∷ ok 0 ∷ ok 0 ∷ error 10 ∷ busy_with 3 ∷ ok 5 ∷ Ended ∷ busy_with 3 ∷ committed ∷ committed ∷ []
 
--- a child has begun a transaction: a delivery that ends its parent is refused, and one that does not is made; a signal
--- that is blocked is not delivered anyway
+-- a child has begun a transaction: a delivery that ends its parent is refused, and one that does
+-- not is made; a blocked signal is not delivered anyway
 abbrev pub fatal_delivery : List Step
 fatal_delivery =
     calls 2 (fork 3)
@@ -286,7 +289,7 @@ FatalDeliveryAnswers =
     answers_of (boot_state 64 2) [] fatal_delivery
     ≡ ok 3 ∷ ok 0 ∷ ok 0 ∷ ok 0 ∷ ok 0 ∷ ok 3 ∷ busy_with 3 ∷ ok 0 ∷ No NotDeliverable ∷ committed ∷ Ended ∷ []
 
--- a delivery that is deferred asks for nothing
+-- a deferred delivery names nothing
 abbrev pub deferred_delivery : List Step
 deferred_delivery =
     calls 2 (fork 3)

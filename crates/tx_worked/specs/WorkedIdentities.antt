@@ -42,8 +42,8 @@ PermittedState =
     (S.procs 2 ≡ Some (with_one_pending 10 (with_ids (users 5 5 5) (standing 2 3 (negsuc 0) no_memory))))
     × (S.procs 4 ≡ Some (with_ids (users 0 5 0) (standing 4 6 (pos 0) no_memory)))
 
--- the effective user 0 may take any group, whatever its groups are; another one takes the effective group alone, and of
--- those that it has. Ids are 0 to 65,535
+-- the effective user 0 may take any group; another one takes only the effective group, and only one
+-- that it has. Ids are 0 to 65,535
 abbrev pub groups : List Step
 groups =
     calls 2 (Setegid (pos 4))

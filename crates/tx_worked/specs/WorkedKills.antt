@@ -9,7 +9,7 @@ use Rattle.tx_model.specs.State.{State, booted_process, boot_state}
 use Rattle.tx_model.specs.Schedules.{answers_of}
 use Rattle.tx_worked.specs.WorkedSteps.{calls, delivery, kernel, fork, kill, ok, committed, state_after, standing, killed_by}
 
--- an outsider's SIGKILL dooms the transaction of a starter: its members can only be taken back
+-- an outsider's SIGKILL dooms the transaction of a starter: it can only be aborted
 abbrev pub doomed : List Step
 doomed =
     calls 2 SysXbegin
@@ -94,7 +94,7 @@ KillUndoneState =
     × (S.procs 2 ≡ Some (standing 2 1 (negsuc 200) no_memory))
     × (S.procs 7 ≡ None)
 
--- on a wide machine, a transaction that defers deliveries: that of SIGKILL is made all the same
+-- on a wide machine, a transaction that defers deliveries: that of SIGKILL is still made
 abbrev pub deferred : List Step
 deferred =
     calls 2 SysXbeginDefer

@@ -62,7 +62,7 @@ first_page = Some (record { writable = true; bytes = replicate 64 0 }) ∷ repli
 abbrev pub PagesState : Type 0
 PagesState = (state_after (boot_state 64 1) pages).procs 1 ≡ Some (standing 1 19 (pos 0) first_page)
 
--- a page that may not be written is read all the same; a store that meets one stores no byte
+-- a page that may not be written can still be read; a store that meets one stores no byte
 abbrev pub protected : List Step
 protected =
     calls 1 (Map (pos 0))

@@ -45,7 +45,7 @@ load_of_three = answered (calls 3 (Load (pos 0))) (ok 170)
 abbrev pub ApartHistory : Type 0
 ApartHistory = history_of (boot_state 256 3) [] apart ≡ load_of_three ∷ commit_of_two ∷ apart_before
 
--- the steps of the transaction stand together, and nothing tells that they did not
+-- the steps of the transaction are together, and nothing shows that they were not
 abbrev pub ApartMoved : Type 0
 ApartMoved =
     (moved_history (boot_state 256 3) 2 (load_of_three ∷ []) commit_of_two apart_before
@@ -79,7 +79,7 @@ looked_at_before =
 abbrev pub LookedAtHistory : Type 0
 LookedAtHistory = history_of (boot_state 256 3) [] looked_at ≡ commit_of_two ∷ looked_at_before
 
--- the delivery tells that the signal was sent before it
+-- the delivery shows that the signal was sent before it
 abbrev pub LookedAtMoved : Type 0
 LookedAtMoved =
     (moved_history (boot_state 256 3) 2 [] commit_of_two looked_at_before
@@ -91,7 +91,8 @@ LookedAtMoved =
     ∷ [])
     × (is_one_moment (boot_state 256 3) 2 commit_of_two looked_at_before ≡ false)
 
--- a child looks at its own signals inside, and ends: its starter is told of that, which tells the moment
+-- a child looks at its own signals inside, and ends: its starter gets SIGCHLD, which shows the
+-- moment
 abbrev pub child_ends : List Step
 child_ends =
     calls 2 SysXbegin ∷ calls 2 (fork 4) ∷ calls 4 Sigpending ∷ calls 4 (Exit (pos 0)) ∷ calls 2 SysXend ∷ []
@@ -108,7 +109,7 @@ abbrev pub ChildEndsTells : Type 0
 ChildEndsTells =
     is_one_moment (boot_state 256 3) 2 commit_of_two (answered (calls 4 (Exit (pos 0))) Ended ∷ child_looks) ≡ false
 
--- the child ends its part and not itself: nothing tells it
+-- the child ends its part and not itself: nothing shows it
 abbrev pub child_parks : List Step
 child_parks =
     calls 2 SysXbegin ∷ calls 2 (fork 4) ∷ calls 4 Sigpending ∷ calls 4 SysXend ∷ calls 2 SysXend ∷ []
@@ -138,7 +139,8 @@ StarterSends =
     × (is_one_moment (boot_state 256 3) 2 commit_of_two (one_step (calls 2 (kill 3 10)) (ok 0)) ≡ true)
     × (is_one_moment (boot_state 256 3) 2 commit_of_two (one_step (calls 2 (kill 2 99)) (error 22)) ≡ true)
 
--- what the starter does before it begins, and what others do, tells nothing; the step that commits may tell
+-- what the starter does before it begins, and what others do, shows nothing; the step that commits
+-- may
 abbrev pub OthersTellNothing : Type 0
 OthersTellNothing =
     (is_one_moment (boot_state 256 3) 2 commit_of_two

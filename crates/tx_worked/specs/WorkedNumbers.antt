@@ -69,7 +69,7 @@ abbrev pub closed_inside : List Step
 closed_inside =
     calls 2 SysXbegin ∷ calls 2 (pipe 4 8 9) ∷ calls 3 (pipe 4 1 2) ∷ calls 2 (Close (pos 0)) ∷ calls 2 (Close (pos 1)) ∷ []
 
--- its numbers are taken, then free and yet reserved, and then free
+-- its numbers are in use, then free but reserved, and then free
 abbrev pub reserved_numbers : List Step
 reserved_numbers = closed_inside ++ calls 3 (pipe 4 1 2) ∷ calls 2 SysXabort ∷ calls 3 (pipe 4 1 2) ∷ []
 
@@ -99,7 +99,7 @@ free p k r w = record { proc = Some p; pipe = Some k; descs = Some (r, w) }
 abbrev pub LeastFree : Type 0
 LeastFree = free_numbers (view_after (boot_state 64 3) closed_inside) 3 ≡ free 4 0 0 1
 
--- numbers that a transaction gave up are free for its members alone, until it ends
+-- numbers that a transaction gave up are free only for its members, until it ends
 abbrev pub given_up_inside : List Step
 given_up_inside =
     calls 2 SysXbegin

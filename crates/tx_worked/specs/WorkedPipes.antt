@@ -93,8 +93,8 @@ eight_pages =
     ∷ calls 1 (Map (pos 7))
     ∷ []
 
--- a pipe takes 512 bytes and no more, and no call moves more; a call that can't go on waits, or is refused where its
--- own side does not block
+-- a pipe takes 512 bytes, and no call moves more; a call that can't go on waits, or is refused
+-- where its own side does not block
 abbrev pub full_pipe : List Step
 full_pipe =
     eight_pages

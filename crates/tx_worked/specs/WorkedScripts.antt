@@ -1,5 +1,5 @@
--- Schedules of calls that concern their own process alone, worked out to the end: jumps, kept answers, numbers, and the
--- console. Own rules.
+-- Schedules of calls that concern only their own process, worked out to the end: jumps, kept
+-- answers, numbers, and the console. Own rules.
 use Rattle.std.specs.Prelude.{◌≡◌, ℕ, false, List, [], ◌∷◌, ◌++◌, pos, negsuc, Some, replicate}
 use Rattle.tx_base.specs.declared.steps.Call.TheVariants.{Map, Protect, Exit, Getpid, Getppid, ConsoleWrite, Jump, Keep}
 use Rattle.tx_base.specs.declared.steps.Reply.{Reply}
@@ -11,7 +11,8 @@ use Rattle.tx_model.specs.State.{boot_state}
 use Rattle.tx_model.specs.Schedules.{answers_of}
 use Rattle.tx_worked.specs.WorkedSteps.{calls, store, fork, ok, error, state_after, standing, with_slots}
 
--- a jump is made always, or where the last answer is a number; the last answer stays. Points are 0 to 65,535
+-- a jump is made always, or only where the last answer is a given number; the last answer stays.
+-- Points are 0 to 65,535
 abbrev pub jumps : List Step
 jumps =
     calls 1 (Jump 7 Always)

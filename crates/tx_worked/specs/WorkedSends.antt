@@ -53,8 +53,9 @@ values =
 abbrev pub ValuesAnswers : Type 0
 ValuesAnswers = answers_of (boot_state 64 3) [] values ≡ replicate 8 (ok 0) ++ Done (negsuc 8) ∷ []
 
--- inside a transaction: errors come before what is closed there; a signal to a member is sent at once, also where the
--- member ended and was waited for; one to a number of no process is held, and each that could not be sent is told in turn
+-- inside a transaction: errors come before what is closed there; a signal to a member is sent at
+-- once, also where the member ended and was waited for; one to a number of no process is held, and
+-- each that could not be sent is reported in turn
 abbrev pub sends_inside : List Step
 sends_inside =
     calls 2 SysXbegin

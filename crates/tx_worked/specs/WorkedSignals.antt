@@ -134,7 +134,8 @@ TargetGoneAnswers =
 abbrev pub TargetGoneState : Type 0
 TargetGoneState = (state_after (boot_state 64 3) target_gone).procs 3 ≡ None
 
--- what goes out at once is closed inside: the console, and the question whether an outsider is there
+-- what would go out at once is closed inside: the console, and the question whether an outsider is
+-- there
 abbrev pub closed_calls : List Step
 closed_calls =
     calls 2 (Map (pos 0))
@@ -158,8 +159,8 @@ ClosedCallsAnswers =
     ∷ committed
     ∷ []
 
--- a transaction holds 32 signals of its members, and no more; the SIGCHLD for the parent of its starter, which is held
--- before them, is none of these
+-- a transaction holds at most 32 signals of its members; the SIGCHLD for the parent of its starter,
+-- which is held before them, is none of these
 abbrev pub full_hold : List Step
 full_hold =
     calls 2 (block 131072)

@@ -50,7 +50,7 @@ sigqueue t signo value = call.Sigqueue (pos t) (pos signo) (pos value)
 abbrev pub block : ℕ → Call
 block set = call.Sigprocmask Block (record { 0 = set })
 
--- these signals are blocked no more
+-- these signals are no longer blocked
 abbrev pub unblock : ℕ → Call
 unblock set = call.Sigprocmask Unblock (record { 0 = set })
 
@@ -100,7 +100,7 @@ state_after S steps = present (view_after S steps)
 abbrev pub marked : ℕ → Bool → Bool → Option Mark
 marked starter ended defers = Some (record { starter = record { 0 = starter }; ended = ended; defers = defers })
 
--- the process as it was booted, but for where it stands, its last answer and its memory
+-- the process as it was booted, except its point, its last answer and its memory
 abbrev pub standing : ℕ → ℕ → ℤ → Memory → Process
 standing n point ret memory =
     record (booted_process n) { registers = record { point = point; ret = ret; slots = replicate 8 (pos 0) }; memory = memory }
@@ -113,27 +113,27 @@ exited status = record (booted_process 2) { status = Some status }
 abbrev pub killed_by : ℕ → Process
 killed_by signo = exited (256 + signo)
 
--- the process, but for its parent
+-- the process, except its parent
 abbrev pub of_parent : ℕ → Process → Process
 of_parent n q = record q { parent = n }
 
--- the process, but for its slots
+-- the process, except its slots
 abbrev pub with_slots : List ℤ → Process → Process
 with_slots slots q = record q { registers = record { point = q.registers.point; ret = q.registers.ret; slots = slots } }
 
--- the process, but for what its descriptors name
+-- the process, except what its descriptors name
 abbrev pub with_open : List (Option ℕ) → Process → Process
 with_open descriptors q = record q { descriptors = descriptors }
 
--- the process, but for its actions: this one, and else the usual ones
+-- the process, except its actions: this one, and else the usual ones
 abbrev pub with_one_action : ℕ → Action → Process → Process
 with_one_action signo action q = record q { actions = slice_set (replicate 40 Usual) signo action }
 
--- the process, but for its mask
+-- the process, except its mask
 abbrev pub with_mask : ℕ → Process → Process
 with_mask mask q = record q { mask = mask }
 
--- the process, but for its ids
+-- the process, except its ids
 abbrev pub with_ids : Ids → Process → Process
 with_ids ids q = record q { ids = ids }
 
@@ -141,7 +141,7 @@ with_ids ids q = record q { ids = ids }
 abbrev pub entry : ℕ → ℕ → Queued
 entry signo value = record { signo = signo; value = pos value }
 
--- the process, but for its queue of realtime signals
+-- the process, except its queue of realtime signals
 abbrev pub with_queue : List Queued → Process → Process
 with_queue queued q = record q { queued = queued }
 
@@ -149,11 +149,11 @@ with_queue queued q = record q { queued = queued }
 abbrev pub saved_at : ℕ → Frame
 saved_at point = record { registers = record first_registers { point = point }; mask = 0 }
 
--- the process, but for what its caught signals saved
+-- the process, except what its caught signals saved
 abbrev pub with_frames : List Frame → Process → Process
 with_frames frames q = record q { frames = frames }
 
--- the process, but for what is pending: this standard signal alone
+-- the process, except what is pending: only this standard signal
 abbrev pub with_one_pending : ℕ → Process → Process
 with_one_pending signo q = record q { pending = 2 ^ signo }
 

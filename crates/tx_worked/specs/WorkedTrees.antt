@@ -10,7 +10,8 @@ use Rattle.tx_model.specs.View.{View}
 use Rattle.tx_model.specs.Schedules.{answers_of}
 use Rattle.tx_worked.specs.WorkedSteps.{calls, store, fork, kill, sigqueue, block, ok, error, committed, busy_with, marked, view_after, state_after, standing, exited, of_parent, with_slots, with_ids, with_one_pending}
 
--- a child that was forked inside goes with the abort, though it has ended, and its number is free again
+-- a child that was forked inside goes with the abort, even if it has ended, and its number is free
+-- again
 abbrev pub child_undone : List Step
 child_undone =
     calls 2 SysXbegin
@@ -102,7 +103,8 @@ ForkedAgainState =
     × (S.procs 2 ≡ Some (with_one_pending 17 (with_slots (pos 1 ∷ replicate 7 (pos 0)) (standing 2 5 (pos 0) no_memory))))
     × (S.procs 7 ≡ Some (of_parent 2 (with_slots (pos 1 ∷ replicate 7 (pos 0)) (standing 7 5 (pos 0) no_memory))))
 
--- process 1 is told of no child's end: process 3 may end while process 1 is reserved, and for process 2 nothing is held
+-- process 1 is notified of no child's end: process 3 may end while process 1 is reserved, and for
+-- process 2 nothing is held
 abbrev pub first_not_told : List Step
 first_not_told =
     calls 2 SysXbegin
@@ -124,7 +126,7 @@ FirstNotToldState =
     × (S.procs 7 ≡ Some (standing 7 3 (pos 0) no_memory))
     × (S.held 2 ≡ [])
 
--- a member is told at once of the end of its child, and an abort takes that back
+-- a member is notified at once of the end of its child, and an abort takes that back
 abbrev pub told_inside : List Step
 told_inside =
     calls 2 (block 131072)

@@ -1,6 +1,6 @@
-//! Schedules that are worked out to the end from the definitions of the kernel, by hand: what each
-//! step is answered, and the state that they leave. A definition can't be refused by a proof; these
-//! schedules are what shows an error in one. `docs/GATE.md` lists the errors that were tried.
+//! Schedules worked out to the end by hand, from the definitions of the kernel: what each step is
+//! answered, and the state that they leave. A proof can't refuse a definition; these schedules show
+//! an error in one. `./check rules` prints the errors that were tried.
 #![tactic(auto)]
 
 mod schedules;

@@ -20,8 +20,8 @@ ghost use Rattle.tx_worked.specs.WorkedIdentities as identities;
 ghost use Rattle.tx_worked.specs.WorkedSends as sends;
 ghost use Rattle.tx_worked.specs.WorkedTrees as trees;
 
-/// Worked schedules of transactions that begin and end: one that its process takes back; two side by
-/// side, of which the kernel takes one back and the other commits; calls that find none, or one; and
+/// Worked schedules of transactions that begin and end: one that its process aborts; two side by
+/// side, of which the kernel aborts one and the other commits; calls that find none, or one; and
 /// one that is begun again.
 pub fn worked_schedules()
     ensures taken_back { first.TakenBackAnswers }
@@ -35,7 +35,7 @@ pub fn worked_schedules()
 
 /// Worked schedules of children, exits and waits in transactions: a child that an abort takes back,
 /// an exit that commits, a starter that ended and is brought back, a number that is forked again;
-/// and who is told of an end, what a child starts with, ids that are given up, and waits.
+/// and who is notified of an end, what a child starts with, ids that are given up, and waits.
 pub fn worked_trees()
     ensures child_undone { trees.ChildUndoneAnswers }
     ensures child_undone_state { trees.ChildUndoneState }
@@ -131,10 +131,10 @@ pub fn worked_pipes()
     ensures more_names_state { pipes.MoreNamesState }
 {}
 
-/// Worked schedules of steps that another transaction is in the way of: two answers to one signal,
-/// by the permission and by the room for it; two transactions that wait for each other; a child
-/// inside one, a parent that one has asked for, a description that a fork would copy; and which one
-/// of two is named.
+/// Worked schedules of steps with another transaction in the way: two answers to one signal, by the
+/// permission and by the room for it; two transactions that wait for each other; a child inside
+/// one, a parent that one has reserved, a description that a fork would copy; and which of two is
+/// named.
 pub fn worked_conflicts()
     ensures undecided_kill { conflicts.UndecidedKillAnswers }
     ensures crossed { conflicts.CrossedAnswers }
@@ -161,9 +161,9 @@ pub fn worked_commits()
     ensures ids_at_call { commits.IdsAtCallAnswers }
 {}
 
-/// Worked schedules of steps that there are several reasons to refuse: an ended process, a chosen number, a
-/// doomed transaction, a part that has ended, a SIGKILL that is pending, a transaction in the way, a wait, and
-/// the reasons not to deliver a signal.
+/// Worked schedules of steps with several reasons for refusal: an ended process, a chosen number, a
+/// doomed transaction, a part that has ended, a SIGKILL that is pending, a transaction in the way,
+/// a wait, and the reasons not to deliver a signal.
 pub fn worked_refusals()
     ensures not_running { refusals.NotRunningAnswers }
     ensures doom_in_turn { refusals.DoomInTurnAnswers }
@@ -191,8 +191,8 @@ pub fn worked_numbers()
     ensures one_side_free { numbers.OneSideFree }
 {}
 
-/// Worked schedules of calls that concern their own process alone: jumps, kept answers, the numbers of a process
-/// and of its parent, and the console.
+/// Worked schedules of calls that concern only their own process: jumps, kept answers, the numbers
+/// of a process and of its parent, and the console.
 pub fn worked_scripts()
     ensures jumps { scripts.JumpsAnswers }
     ensures jumps_state { scripts.JumpsState }
@@ -205,7 +205,7 @@ pub fn worked_scripts()
     ensures shown_count_state { scripts.ShownCountState }
 {}
 
-/// Worked schedules of pages: mapped and taken out, and such that may not be written.
+/// Worked schedules of pages: mapped and taken out, and some that may not be written.
 pub fn worked_memory()
     ensures pages { memory.PagesAnswers }
     ensures pages_state { memory.PagesState }
@@ -213,8 +213,8 @@ pub fn worked_memory()
     ensures protected_state { memory.ProtectedState }
 {}
 
-/// Worked schedules of committed transactions as one moment: the order in which their steps are put, and what
-/// tells that they were apart.
+/// Worked schedules of committed transactions as one moment: the order in which their steps are
+/// put, and what shows that they were apart.
 pub fn worked_moments()
     ensures apart_history { moments.ApartHistory }
     ensures apart_moved { moments.ApartMoved }
@@ -244,8 +244,8 @@ pub fn worked_children()
     ensures killed_commit_state { children.KilledCommitState }
 {}
 
-/// Worked schedules of descriptors: which numbers they get, how many there are, when they are closed, and the
-/// order in which wrong calls on them are found out.
+/// Worked schedules of descriptors: which numbers they get, how many there are, when they are
+/// closed, and the order in which wrong calls on them are tested.
 pub fn worked_descriptors()
     ensures lowest_first { descriptors.LowestFirstAnswers }
     ensures lowest_first_state { descriptors.LowestFirstState }
@@ -259,8 +259,8 @@ pub fn worked_descriptors()
     ensures wrong_descriptors { descriptors.WrongDescriptorsAnswers }
 {}
 
-/// Worked schedules of what each step asks for: descriptions, pipes, chosen numbers, processes, the targets of
-/// a commit, and the children and the parent of a process that ends.
+/// Worked schedules of what each step names: descriptions, pipes, chosen numbers, processes, the
+/// targets of a commit, and the children and the parent of a process that ends.
 pub fn worked_footprints()
     ensures changed_description { footprints.ChangedDescriptionAnswers }
     ensures changed_writer { footprints.ChangedWriterAnswers }

@@ -1,4 +1,4 @@
--- What lies under the lock.
+-- What is under the lock.
 use Rattle.std.specs.Prelude.{◌≡◌, ℕ, List, ◌++◌, length, Option, Some}
 use Rattle.tx_journal.specs.Sessions.{start_of, IsAtEnd, SessionState, SameBoot}
 use Rattle.tx_journal.specs.declared.entry.Entry.{Entry}
@@ -6,7 +6,7 @@ use Rattle.tx_lines.specs.declared.instructions.Instruction.{Instruction}
 use Rattle.tx_lines.specs.declared.programs.Program.{Program}
 use Rattle.tx_workers.specs.Histories.{AllNamed}
 
--- the session is what was handed in and so many entries more, each named by the program
+-- the session is what was handed in and so many more entries, each named by the program
 pub record HasGrown (instructions : List Instruction) (given session : SessionState) (total : ℕ) : Type 0 where
   pub added : List Entry
   pub grown : session.entries ≡ given.entries ++ added

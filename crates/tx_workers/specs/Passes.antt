@@ -1,4 +1,4 @@
--- What a turn makes of a session and of the worker that takes it.
+-- What a turn does to a session and to the worker that takes it.
 use Rattle.std.specs.Prelude.{◌≡◌, ℕ, List, ◌++◌, map}
 use Rattle.tx_journal.specs.Entries.{accepted_of}
 use Rattle.tx_journal.specs.Sessions.{SessionState, IsAtEnd, SameBoot}

@@ -24,7 +24,7 @@ run_line number worker step reply = decimal number ++ (codes " w" ++ (decimal wo
 abbrev pub entry_line : ℕ → Entry → List ℕ
 entry_line number entry = run_line number entry.worker entry.step entry.reply
 
--- the lines of some things by their numbers, of which the first is that one
+-- the lines of some things by their numbers, from that one on
 abbrev pub numbered : {A : Type 0} → (ℕ → A → List ℕ) → ℕ → List A → List ℕ
 numbered line number [] = []
 numbered line number (x ∷ xs) = line number x ++ numbered line (number + 1) xs

@@ -23,7 +23,8 @@ pub record IsBooted (header : Header) (session : SessionState) : Type 0 where
   pub width : session.width ≡ most_of header.version
   pub count : session.count ≡ header.count
 
--- what was left to read means a program, and so many workers ran it from its start, each for so many turns at most
+-- what was left to read means a program, and so many workers ran it from its start, each for at
+-- most so many turns
 pub record IsRunOf (left : Option (List ℕ)) (workers turns : ℕ) (session : SessionState) : Type 0 where
   pub program : Program
   pub given : SessionState
@@ -32,7 +33,8 @@ pub record IsRunOf (left : Option (List ℕ)) (workers turns : ℕ) (session : S
   pub booted : IsBooted program.header given
   pub worked : IsWorked program given workers turns session crew
 
--- what was left to read means a program, and its workers gave nothing back; where there are none, no thread is wanted
+-- what was left to read means a program, and its workers gave nothing back; with no workers no
+-- thread is wanted
 pub record IsLostRun (left : Option (List ℕ)) (workers : ℕ) (why : WorkFault) : Type 0 where
   pub program : Program
   pub spelled : MeansProgram left program
@@ -44,7 +46,8 @@ RunsFrom left reads workers turns (Ok session) reads' = IsRunOf left workers tur
 RunsFrom left reads workers turns (Err (Text why)) reads' = MeansProgramFrom left reads (Err why) reads'
 RunsFrom left reads workers turns (Err (Work why)) reads' = IsLostRun left workers why × IsCalm reads reads'
 
--- a program is read, and what is told of its run is written, or a front of it, or nothing, as the fault says
+-- a program is read, and the report of its run is written, or a front of it, or nothing, as the
+-- fault says
 abbrev pub RunsText : (SessionState → List ℕ) → Option (List ℕ) → Counts → Option (List ℕ) → Counts → ℕ → ℕ → Result (Unit {0}) RunFault → Counts → Option (List ℕ) → Counts → Type 0
 RunsText told left reads written writes workers turns (Ok _) reads' written' writes' =
     ((session : SessionState) × IsRunOf left workers turns session × Appends written written' (told session)) × IsCalm reads reads' × IsCalm writes writes'

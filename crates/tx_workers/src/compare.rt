@@ -1,11 +1,11 @@
-//! Whether workers kept just the places that the journal has of them.
+//! Whether workers kept exactly the places of their entries in the journal.
 ghost use Rattle.std.specs.Prelude.{◌≡◌, All, IsTrue};
 ghost use Rattle.tx_workers.specs.Teams.{places_of};
 
 use crate::runner::Runner;
 use tx_journal::Entry;
 
-/// Whether each worker kept just the places of the entries that are its own, in order, of those which the
+/// Whether each worker kept exactly the places of its own entries, in order, among those that the
 /// journal has after so many.
 pub fn are_noted(added: &[Entry], start: usize, runners: &[Runner]) -> bool
     ensures { IsTrue result →

@@ -16,7 +16,7 @@ use std::sync::ledger::Share;
 use std::thread::{Scope, Threads};
 use tx_ready::{ReadyQueue, Station};
 
-/// What some workers at the ready queue give back, with their stations put together.
+/// What some workers at the ready queue give back, with their stations in one.
 #[derive(Drop)]
 pub struct Crew<J: Work> {
     pub team: Team<J>,

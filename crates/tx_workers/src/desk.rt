@@ -1,4 +1,4 @@
-//! What lies under the lock.
+//! What is under the lock.
 ghost use Rattle.std.specs.Prelude.{◌≡◌, ◌+◌, ◌<◌, ◌≤◌, ◌++◌, ◌∷◌, [], IfOk, OnOk, Some, length, vec_len};
 ghost use Rattle.tx_journal.specs.Sessions.{IsAtEnd};
 ghost use Rattle.tx_workers.specs.Desks.{IsDesk};
@@ -15,7 +15,7 @@ use tx_base::{NoMemory, Pid};
 use tx_journal::Session;
 use tx_lines::Program;
 
-/// Which program is run, and on which session. Each run picks them; contracts alone see them.
+/// Which program is run, and on which session. Each run picks them; only contracts see them.
 pub trait Work: Ledger {
     ghost use Rattle.std.specs.Prelude.{Option};
     ghost use Rattle.tx_journal.specs.Sessions.{SessionState};

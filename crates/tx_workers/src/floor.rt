@@ -20,7 +20,7 @@ pub struct Done<J: Work> {
     pub made: Result<(), NoMemory>,
 }
 
-/// Which worker a thread is, and how many turns it makes at most.
+/// Which worker a thread is, and the most turns that it makes.
 #[derive(Clone, Copy)]
 pub struct Post {
     pub number: u16,

@@ -1,7 +1,7 @@
-//! What stands before and after each turn.
+//! What is called before and after each turn.
 
-/// What is told of each turn of a worker, before it and after it. It may wait there, so that a test can
-/// say in which order turns are taken.
+/// Called before and after each turn of a worker. It may wait there, so that a test can order the
+/// turns.
 pub trait Gate {
     /// The worker of that number comes to a turn, counted from 1.
     fn enter(&self, worker: u16, turn: u32);

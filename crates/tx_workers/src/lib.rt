@@ -1,39 +1,33 @@
 #![tactic(auto)]
 //! Workers that run a program in turns, and what writes a run.
 //!
-//! `turn` looks for the worker's next running process (`next.rt`), and `turn_of` takes the turn of
-//! a process: `named.rt` says which step the program names for it, with the signals that are
-//! offered by `offers.rt`, and `turns.rt` makes it in the session. What there is to say of it is
-//! defined over the view: `offered`, `named`, `turn_adds`, `next_process`. So the contract of a
-//! turn speaks of no code, and what a turn adds can be told from the journal before it. `make_turn`
-//! notes nothing: its callers find the entry at the end of the journal. `turn_of` notes a copy of it,
-//! a run its place. Room for the note is made before the step. After the reply that the transaction is
-//! doomed the kernel's abort is a step like another, whose answer on the view says whether there is
-//! anything to abort.
+//! # A turn
 //!
-//! A run has a `Desk` (`desk.rt`) under a `Mutex`: the session, and the book of a ledger. Each
-//! worker has a share of the ledger, and a turn at the desk adds to the share how many entries it
-//! made. The desk's invariant (`IsDesk`) is what is known each time the lock is taken: the session
-//! has what was handed in and as many entries more as the book counts, each named by the program on
-//! the view of those before it. Which program and which session these are, the invariant knows by
-//! two members of the trait `Work` that contracts alone see; each run picks them for the name that
-//! its lock has. So neither is copied, and nothing of them is compared later.
+//! `turn` finds the worker's next running process (`next.rt`), `turn_of` takes the turn of one:
+//! `named.rt` finds the step that the program names, with the signals on offer (`offers.rt`), and
+//! `turns.rt` makes it. All is defined over the view, so what a turn adds follows from the journal
+//! before it. Room for the note is made before the step. The kernel's abort of a doomed transaction
+//! is a step like others.
 //!
-//! The desk keeps a number over which there is no process (`tops.rt`), so that a turn looks at no more
-//! of the numbers. Processes come by a boot or a fork alone, whatever is taken back: that is proved of
-//! every history (`proofs/Reached.antt`).
+//! # The desk
 //!
-//! `run_workers` (`run.rt`, `team.rt`, `floor.rt`) starts workers by recursion: a call for n workers
-//! splits off a part of its share, starts one worker with it, calls itself for n - 1, and joins.
-//! In a run a worker is a `Runner` (`runner.rt`), which keeps the places of its entries in the journal.
-//! What it gives back, its share and these places, is promised by its `Post`. With all parts again the
-//! book is audited, so that as many entries were added as the shares count. `checked` compares the
-//! places with those of the entries of its number (`results.rt`, `compare.rt`), and `noted` makes the
-//! workers of these, with notes that are copies of their entries. `run_queue` (`ready.rt`, `crew.rt`,
-//! `service.rt`) does the same with a station beside the share. `run_from` (`whole.rt`) reads a program
-//! and runs it without notes, since its caller has the session alone, and `write_run` writes such a
-//! run (`text.rt`). A `Gate` is told of each turn before the lock is taken and after it is let go; by
-//! it tests say in which order turns are taken.
+//! A `Mutex` holds the `Desk`: the session, and the book of a ledger, of which each worker has a
+//! share. Each lock gives `IsDesk`: the session has what was handed in and as many entries more as
+//! the book counts, each named by the program on the view before it. Two members of the trait
+//! `Work`, which only contracts see, say which program and session; each run picks them for its
+//! lock's name. So neither is copied or compared.
+//!
+//! No turn looks above the highest number (`tops.rt`): only boots and forks add processes, whatever
+//! is taken back (`proofs/Reached.antt`).
+//!
+//! # A run
+//!
+//! `run_workers` starts workers by recursion, each with a part of its share, and joins them. The
+//! `Post` of a `Runner` promises its share and its entries' places. Then the book is audited,
+//! `checked` compares the places with the journal, and `noted` copies the entries.
+//!
+//! `run_queue` (`crew.rt`, `service.rt`) adds stations. `run_from` makes no notes, since its caller
+//! has the session. A `Gate` is called around each turn, outside the lock: tests order turns by it.
 
 mod compare;
 mod crew;

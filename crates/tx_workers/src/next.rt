@@ -9,8 +9,8 @@ use crate::named::running;
 use tx_base::Pid;
 use tx_core::Machine;
 
-/// The next running process of a worker of that number and total after the one whose turn was last, where
-/// none over the top runs. The numbers go round.
+/// The next running process of a worker of that number and total after the one whose turn was last,
+/// where none above the top runs. The numbers go round.
 pub(crate) fn next_process(
     machine: &Machine,
     number: u16,

@@ -23,12 +23,12 @@ use tx_journal::Session;
 use tx_lines::Program;
 use tx_ready::{ReadyQueue, Station, Tally};
 
-/// Runs the program by workers as `run_workers` does, but that no worker has processes of its own: in a
-/// turn it takes process numbers from a queue that all share, gives each of these processes its turn and
-/// puts the number back, until one of them ran, or it has taken as many as there may be, or the queue is
-/// empty. The tally says how often each number was put, taken and left.
+/// Runs the program by workers as `run_workers` does, but no worker has processes of its own: in a
+/// turn it takes process numbers from a queue that all share, gives each of these processes its
+/// turn and puts the number back, until one of them ran, it has taken as many as there may be, or
+/// the queue is empty. The tally has how often each number was put, taken and left.
 ///
-/// The faults are those of `run_workers`; `NoMemory` too where the queue wants memory.
+/// The faults are those of `run_workers`; `NoMemory` also where the queue wants memory.
 pub fn run_queue<R: Threads + Wait + Sync, G: Gate + Sync>(
     rt: &R,
     alloc: Global,
@@ -98,7 +98,7 @@ fn serve_named<J: Work + Send + Sync, R: Threads + Wait + Sync, G: Gate + Sync>(
     Ok((outcome, tally))
 }
 
-/// The workers from a number down to 1, when all have come back.
+/// The workers from a number down to 1, after all were joined.
 fn serve_scoped<J: Work + Send + Sync, R: Threads + Wait + Sync, G: Gate + Sync>(
     floor: &Floor<'_, J, R, G>,
     queue: &ReadyQueue,

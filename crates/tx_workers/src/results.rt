@@ -35,9 +35,10 @@ pub struct Outcome {
 }
 
 impl Outcome {
-    /// The workers with their notes, which are made of the entries that the journal has after so many.
+    /// The workers with their notes, which are made of the entries that the journal has after so
+    /// many.
     ///
-    /// `NoMemory` where a growth is refused; the session is gone then.
+    /// `NoMemory` where a growth is refused; the session is then gone.
     pub fn noted(self, alloc: Global, start: usize) -> Result<Worked, WorkFault>
         requires { start ≤ length self.session.entries }
         ensures worked { (program : Program) (given : SessionState) (count : ℕ) (turns : ℕ) →
@@ -93,8 +94,8 @@ fn notes_of(alloc: Global, added: &[Entry], runner: &Runner) -> Result<Vec<Accep
     Ok(notes)
 }
 
-/// Takes the session from under the lock, and looks whether each worker kept just the places that the
-/// journal has of it after so many entries: `Strayed` where one did not.
+/// Takes the session from under the lock, and checks that each worker kept exactly the places that
+/// the journal has of it after so many entries: `Strayed` where one did not.
 pub fn checked<J: Work>(
     desk: Mutex<Desk<J>>,
     program: &Program,

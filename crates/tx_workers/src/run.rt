@@ -20,13 +20,14 @@ use std::thread::Threads;
 use tx_journal::Session;
 use tx_lines::Program;
 
-/// Runs the program by workers of the numbers from 1 on, each in a thread of its own, which all take their
-/// turns at one session under one lock. Each takes so many turns, unless a growth of memory is refused to
-/// it. The gate is told of each turn before the lock is taken and after it is let go.
+/// Runs the program by workers of the numbers from 1 on, each in a thread of its own, which all
+/// take their turns at one session under one lock. Each takes so many turns, unless a growth of
+/// memory is refused to it. The gate is called before the lock of each turn is taken and after it
+/// is let go.
 ///
-/// `Spawn` where a thread could not be started, `NoMemory` where a growth is refused, `Strayed` where a
-/// worker noted something else than the journal has of it; of several the first of these. Where the notes
-/// themselves want memory that is found last. The session is gone after a fault.
+/// `Spawn` where a thread could not be started, `NoMemory` where a growth is refused, `Strayed`
+/// where a worker noted something else than the journal has of it; of several the first of these.
+/// That the notes themselves want memory is found last. The session is gone after a fault.
 pub fn run_workers<R: Threads + Wait + Sync, G: Gate + Sync>(
     rt: &R,
     alloc: Global,
@@ -45,7 +46,7 @@ pub fn run_workers<R: Threads + Wait + Sync, G: Gate + Sync>(
     run_without_notes(rt, alloc, session, program, workers, turns, gate)?.noted(alloc, start)
 }
 
-/// The same, but that no notes are made.
+/// The same, without notes.
 pub(crate) fn run_without_notes<R: Threads + Wait + Sync, G: Gate + Sync>(
     rt: &R,
     alloc: Global,
@@ -105,7 +106,7 @@ fn run_named<J: Work + Send + Sync, R: Threads + Wait + Sync, G: Gate + Sync>(
     checked(desk, program, start, post, team)
 }
 
-/// The workers from a number down to 1, when all have come back.
+/// The workers from a number down to 1, after all were joined.
 fn run_scoped<J: Work + Send + Sync, R: Threads + Wait + Sync, G: Gate + Sync>(
     floor: &Floor<'_, J, R, G>,
     post: Post,

@@ -3,8 +3,8 @@ ghost use Rattle.std.specs.Prelude.{◌≡◌, ◌+◌, ◌<◌, ◌≤◌, ◌+
 
 use std::alloc::Global;
 
-/// A worker while it is in a run. It keeps the places of its entries alone, of which its notes can be made
-/// when the run is over.
+/// A worker in a run. It keeps only the places of its entries, from which its notes can be made
+/// after the run.
 #[derive(Drop)]
 pub struct Runner {
     /// From 1 to the total.
@@ -32,8 +32,7 @@ impl Runner {
         }
     }
 
-    /// Notes the entry that the journal has after so many, where it has come to one more: there must be
-    /// room.
+    /// Notes the entry that the journal has after so many, if it has one more: there must be room.
     pub fn note(&mut self, before: usize, after: usize)
         requires low { before ≤ after }
         requires high { after ≤ before + 1 }

@@ -12,7 +12,7 @@ use std::sync::Wait;
 use std::sync::ledger::Share;
 use std::thread::{Scope, Threads};
 
-/// What some workers give back, with their shares put together.
+/// What some workers give back, with their shares in one.
 #[derive(Drop)]
 pub struct Team<J: Work> {
     pub runners: Vec<Runner>,

@@ -82,8 +82,8 @@ fn put_answer(text: &mut String, reply: &Reply) -> Result<(), AllocError>
     put(text, "\n")
 }
 
-/// Appends a worker's number between spaces. Those of most runs have words of their own: a number is made
-/// digit by digit, on each line.
+/// Appends a worker's number between spaces. The numbers of most runs have words of their own: any
+/// other is made digit by digit, on each line.
 fn put_worker(text: &mut String, worker: u16) -> Result<(), AllocError>
     ensures { OnOk result
         (string_bytes text.new ≡ string_bytes text.old

@@ -1,11 +1,11 @@
-//! Up to which number there may be processes.
+//! The number above which there is no process.
 ghost use Rattle.std.specs.Prelude.{◌≡◌, ◌+◌, ◌≤◌, All, length, take};
 ghost use Rattle.tx_workers.specs.Tops.{HasTop, IsWithin};
 
 use tx_base::{Call, Step};
 use tx_journal::Session;
 
-/// A number over which no process of a session was booted, and none was made.
+/// A number above which no process of a session was booted or made.
 pub(crate) fn top_of(session: &Session) -> u16
     ensures { HasTop result session.now }
 {
@@ -16,7 +16,7 @@ pub(crate) fn top_of(session: &Session) -> u16
     top
 }
 
-/// The same after one entry at most has come to so many.
+/// The same after at most one entry more than so many.
 pub(crate) fn top_after(session: &Session, before: usize, top: u16) -> u16
     requires few { length session.now.entries ≤ before + 1 }
     requires booted { session.now.count ≤ top }
@@ -29,7 +29,7 @@ pub(crate) fn top_after(session: &Session, before: usize, top: u16) -> u16
     }
 }
 
-/// The number, or that of the process that a step makes where this is greater.
+/// The greater of the number and that of the process that a step makes.
 fn raised(top: u16, step: &Step) -> u16
     ensures higher { top ≤ result }
     ensures within { IsWithin result step.now }

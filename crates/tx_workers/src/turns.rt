@@ -63,10 +63,10 @@ pub fn turn(
     Ok(())
 }
 
-/// Takes the turn of a process: the step that the program names for it. An accepted step is noted by the
-/// worker. Where it is refused since the transaction of the process is doomed, the kernel aborts that
-/// transaction, and this abort is noted. After another refusal nothing has changed. The worker's `last`
-/// stays.
+/// Takes the turn of a process: the step that the program names for it. The worker notes an
+/// accepted step. Where it is refused since the transaction of the process is doomed, the kernel
+/// aborts that transaction, and this abort is noted. After another refusal nothing has changed. The
+/// worker's `last` stays.
 ///
 /// `NoMemory` where a growth is refused: session and worker are then as they were.
 pub fn turn_of(
@@ -122,8 +122,8 @@ pub(crate) fn note_of(entry: &Entry) -> Accepted
     }
 }
 
-/// Takes the turn of a process as `turn_of` does, for the worker of that number, and notes nothing: who
-/// calls it finds what was added at the end of the journal.
+/// Takes the turn of a process as `turn_of` does, for the worker of that number, and notes nothing:
+/// its caller finds what was added at the end of the journal.
 pub(crate) fn make_turn(
     alloc: Global,
     session: &mut Session,
@@ -176,8 +176,8 @@ fn take(
     Ok(())
 }
 
-/// Aborts the transaction of which a process is a member as the kernel does. Where it is a member of none,
-/// nothing is done.
+/// Aborts the transaction of which a process is a member, as the kernel does. Does nothing where it
+/// is a member of none.
 fn abort(alloc: Global, session: &mut Session, worker: u16, pid: Pid)
     requires at_end { IsAtEnd session.old }
     ensures { Grows (abort_of (view_of session.old.machine) worker

@@ -24,10 +24,10 @@ pub enum RunFault {
     Work(WorkFault),
 }
 
-/// Reads the text of a program to its end, and runs it from its start by so many workers, each of which
-/// takes so many turns: the session of that run, for its caller to tell. No worker makes notes. A text that
-/// is no program is told as by `read_program`, a run that gives nothing back as by `run_workers`; after a
-/// fault there is no session.
+/// Reads the text of a program to its end, and runs it from its start by so many workers, each of
+/// which takes so many turns: the session of that run, for its caller to print. No worker makes
+/// notes. A text that is no program is reported as by `read_program`, a run that gives nothing back
+/// as by `run_workers`; after a fault there is no session.
 pub fn run_from<R, S>(
     rt: &R,
     alloc: Global,

@@ -51,7 +51,8 @@ picture_line = record (new_shape (codes "picture")) { rules = number_option (cod
 abbrev pub run_line : Shape
 run_line = record (new_shape (codes "run")) { rules = required_option (codes "workers") 16 ∷ required_option (codes "turns") 10000 ∷ [] }
 
--- the command that checks a text, with the name of the command that is to read it, which may be missing
+-- the command that checks a text, with the name of the command that would read it, which may be
+-- missing
 abbrev pub check_line : Shape
 check_line = record (new_shape (codes "check")) { rules = new_rule (codes "command") ∷ [] }
 
@@ -159,9 +160,11 @@ abbrev pub IsFormOf : Option Text → Form → Type 0
 IsFormOf said forms.Text = said ≢ Some (codes "true")
 IsFormOf said forms.Json = (said ≢ None) × (said ≢ Some (codes "false"))
 
--- the form is the one that the flag of the words says; and the JSON of a run is asked for where both of its numbers are given, and that of a schedule
--- where neither is; a picture begins with step 1 where no first step is given, and goes to the last where none is given, and its first step is not behind its last; and a text is
--- checked as that of its kind is read where no command is given
+-- the form is the one that the flag of the words says; and the JSON of a run is asked for where
+-- both of its numbers are given, and that of a schedule where neither is; a picture begins with
+-- step 1 where no first step is given, and goes to the last where none is given, and its first step
+-- is not after its last; and a text is checked as that of its kind is read where no command is
+-- given
 abbrev pub IsAskedIn : Option (Text × List Row) → Asked → Type 0
 IsAskedIn entered (Shell form) = IsFormOf (text_in (codes "json") entered) form
 IsAskedIn entered Json = (gives_workers entered ≡ false) × (gives_turns entered ≡ false)
@@ -182,7 +185,7 @@ begins_negative (first ∷ second ∷ rest) = first == 45 && is_ascii_digit seco
 abbrev pub number_behind : Text → Text → Option Text
 number_behind command word = if bytes_eq command (codes "explain") && begins_negative word then Some word else None
 
--- the number with `-` before it that words ask to be explained
+-- the number with `-` before it that words ask to explain
 abbrev pub asked_number : List Text → Option Text
 asked_number (name ∷ command ∷ word ∷ []) = number_behind command word
 asked_number words = None

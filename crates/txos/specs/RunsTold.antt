@@ -1,4 +1,4 @@
--- What tells a run.
+-- The report of a run.
 use Rattle.std.specs.Prelude.{ℕ, List}
 use Rattle.tx_journal.specs.Sessions.{SessionState}
 use Rattle.tx_script.specs.JsonLines.{text_of}

@@ -1,8 +1,8 @@
 //! The program: reads its words, and then a text.
 //!
-//! The program. `main` is thin: it reads the words with `clap`, calls `replay`, `debug`, `write_json`,
-//! `picture`, `talk`, `check_for` or `write_plain` over the standard streams, or writes what a word means or
-//! what a run did (`runs.rt`), and answers a status.
+//! `main` is thin: it reads the words with `clap`, calls `replay`, `debug`, `write_json`,
+//! `picture`, `talk`, `check_for` or `write_plain` over the standard streams, or writes what a word
+//! means or what a run did (`runs.rt`), and answers a status.
 #![tactic(auto)]
 
 ghost use Rattle.std.specs.Prelude.{◌≡◌, IfOk, OnErr, OnOk, false, true};
@@ -74,7 +74,7 @@ fn main(rt: HostRuntime) -> ExitCode {
     }
 }
 
-/// Whether a person is at both standard streams, as far as the system can say.
+/// Whether a person is at both standard streams, as far as the system knows.
 fn is_before_person(rt: &HostRuntime) -> bool {
     rt.stdin().is_terminal() && rt.stdout().is_terminal()
 }
@@ -117,8 +117,8 @@ where
     }
 }
 
-/// Answers the lines of the standard input, of which many are read at once where they are there. What
-/// asks a person for a line is text, and JSON has none.
+/// Answers the lines of the standard input, and reads many at once where they are there. Only text
+/// asks a person for a line; JSON has no prompt.
 fn converse(
     rt: &(impl Input + Print),
     alloc: Global,
@@ -139,12 +139,12 @@ fn converse(
     if !console.greet() {
         return Err(TalkFault::Writer);
     }
-    // The program ends with the talk, and the system takes back at once what the steps left.
+    // The program ends with the session, and the system takes back at once what the steps left.
     talk(alloc, Box::leak(shell), &mut console)
 }
 
 /// Writes what a word means, or without one the list of all words. A word that is not explained is
-/// one that is not understood.
+/// reported, with the status of words that can't be read.
 fn tell<R, W>(rt: &R, alloc: Global, word: Option<&str>, sink: &mut W) -> ExitCode
 where
     R: Eprint,
@@ -163,7 +163,7 @@ where
     status_of(rt, write_whole(sink, text.as_bytes()))
 }
 
-/// Says that a word is not explained, and which one may be meant.
+/// Reports that a word is not explained, and which one may be meant.
 fn unexplained(rt: &impl Eprint, alloc: Global, word: &str) -> ExitCode {
     let Ok(near) = nearest(alloc, word) else {
         return out_of_memory(rt);
@@ -175,7 +175,7 @@ fn unexplained(rt: &impl Eprint, alloc: Global, word: &str) -> ExitCode {
     ExitCode::from(UNREAD)
 }
 
-/// Says that the words give one of the numbers of a run alone, in the form of what clap says.
+/// Reports, in clap's form, that the words give only one of the numbers of a run.
 fn half_run(rt: &impl Eprint) -> ExitCode
     ensures { exit_status result ≡ UNREAD }
 {
@@ -185,7 +185,7 @@ fn half_run(rt: &impl Eprint) -> ExitCode
     ExitCode::from(UNREAD)
 }
 
-/// Says that an excerpt's first step is behind its last one, in the form of what clap says.
+/// Reports, in clap's form, that an excerpt's first step is after its last one.
 fn no_excerpt(rt: &impl Eprint) -> ExitCode
     ensures { exit_status result ≡ UNREAD }
 {
@@ -195,7 +195,7 @@ fn no_excerpt(rt: &impl Eprint) -> ExitCode
     ExitCode::from(UNREAD)
 }
 
-/// Says that a word names no command by which a text can be checked, in the form of what clap says.
+/// Reports, in clap's form, that a word names no command by which a text can be checked.
 fn no_reader(rt: &impl Eprint, word: &str) -> ExitCode
     ensures { exit_status result ≡ UNREAD }
 {
@@ -234,7 +234,7 @@ fn status_of_check(rt: &impl Eprint, answer: Result<bool, Fault>) -> ExitCode
     }
 }
 
-/// Says that memory is wanted.
+/// Reports that memory is wanted.
 fn out_of_memory(rt: &impl Eprint) -> ExitCode
     ensures { exit_status result ≡ FAULTY }
 {

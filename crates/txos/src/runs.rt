@@ -14,9 +14,10 @@ use tx_lines::{Fault, Sink, Source, write_whole};
 use tx_script::{Form, run_lines};
 use tx_workers::{RunFault, run_from, write_run};
 
-/// Reads the text of a program to its end, runs it from its start by workers, and writes the run: its text,
-/// or the lines of JSON that tell it. Nothing is written where the fault is another one than `Writer`. A text
-/// that is no program is told as by `read_program`, a run that gives nothing back as by `run_workers`.
+/// Reads the text of a program to its end, runs it from its start by workers, and writes the run:
+/// its text, or its lines of JSON. Where the fault is not `Writer` nothing is written. A text that
+/// is no program is reported as by `read_program`, a run that gives nothing back as by
+/// `run_workers`.
 pub fn answer_run<R, S, W>(
     rt: &R,
     alloc: Global,
@@ -45,8 +46,8 @@ where
     }
 }
 
-/// Writes what tells a session in that form. Nothing is written where the fault is `NoMemory`; the only other
-/// one is `Writer`.
+/// Writes the report of a session in that form. Nothing is written where the fault is `NoMemory`;
+/// the only other one is `Writer`.
 fn write_in<W: Sink>(
     alloc: Global,
     form: Form,

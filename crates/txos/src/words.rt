@@ -18,7 +18,7 @@ use tx_script::Form;
 /// The version of the program.
 const VERSION: &str = "1.0.0";
 
-/// What tells the version: the line that clap writes, and the kits in whose logic the program is
+/// The text of the version: the line that clap writes, and the kits in whose logic the program is
 /// proved.
 pub const VERSION_LINES: &str = "txos 1.0.0\nrattle-kit-13b and 13f, logic dac8208d650f15bf\n";
 
@@ -42,11 +42,11 @@ pub enum Asked<'a> {
     Json,
     /// To read a program, run it by workers, and write what they did as JSON.
     JsonRun(Crew),
-    /// To say that JSON of a run wants both of its numbers, of which the words give one.
+    /// To report that JSON of a run wants both of its numbers, of which the words give one.
     HalfRun,
     /// To read a schedule, make its steps, and write a picture of an excerpt of them.
     Picture(Excerpt),
-    /// To say that an excerpt's first step is behind its last one.
+    /// To report that an excerpt's first step is after its last one.
     NoExcerpt,
     /// To read a schedule, make its steps, and write which replies are not as its text expects.
     Expect,
@@ -57,7 +57,7 @@ pub enum Asked<'a> {
     /// To read a text, and write what is wrong with each of its lines that is at fault, as a command reads
     /// it.
     Check(Reader),
-    /// To say that a word names no command by which a text can be checked.
+    /// To report that a word names no command by which a text can be checked.
     NoReader(&'a str),
     /// To read a text as people write it, and write the text that it means.
     Plain,
@@ -125,8 +125,8 @@ fn asked_of<'a>(matches: &ArgMatches<'a>) -> Result<Asked<'a>, AllocError>
     }
 }
 
-/// The number with `-` before it that the words ask to be explained, if they do: clap would take
-/// such a word for an option.
+/// The number with `-` before it that the words ask to explain, if any: clap would take such a word
+/// for an option.
 pub fn number_asked(words: &[String]) -> Option<&str>
     ensures { option_map (λ word. word.now) result ≡ asked_number (map string_bytes words.now) }
 {
@@ -136,7 +136,7 @@ pub fn number_asked(words: &[String]) -> Option<&str>
     }
 }
 
-/// The word, where it is a number with `-` before it behind `explain`.
+/// The word, where it is a number with `-` before it after `explain`.
 fn number_behind<'a>(command: &str, word: &'a str) -> Option<&'a str>
     ensures { option_map (λ word. word.now) result ≡ number_behind command.now word.entry.now }
 {
@@ -475,7 +475,7 @@ fn step_option<'a>(alloc: Global, name: &'a str) -> Arg<'a>
         .value_parser(value_parser!(u16).range(1..=4096))
 }
 
-/// The command that checks a text, with the command that is to read it, which may be missing.
+/// The command that checks a text, with the command that would read it, which may be missing.
 fn check_command<'a>(alloc: Global) -> Result<Command<'a>, AllocError>
     ensures shape { IfOk result (λ command. (app_of command).top ≡ check_line) }
     ensures local { IfOk result (λ command. (out-Command command).has_globals ≡ false) }

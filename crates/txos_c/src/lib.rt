@@ -1,11 +1,11 @@
 //! The library for C: a text in, and its answer out, into the caller's buffer.
 //!
-//! Each function that C calls makes the answer, as the program's command of that name does, and hands
-//! it out (tx_answers). Its status is 0 where the text could be read, 1 where it could not, which the
-//! answer tells, 2 where memory was refused, and 3 where the buffer is too small; the last two leave the
-//! buffer as it was. `include/txos.h` declares the functions, and says what a caller owes. A slice
-//! crosses as a pointer and a length, and the allocator as nothing. Nothing is kept from one call to the
-//! next, so calls on several threads don't meet.
+//! Each function makes the answer as the program's command of that name does, and hands it out
+//! (tx_answers). Its status is 0 where the text could be read, 1 where it could not, which the
+//! answer reports, 2 where memory was refused, and 3 where the buffer is too small; the last two
+//! leave the buffer as it was. `include/txos.h` declares the functions, and says what a caller
+//! owes. A slice crosses as a pointer and a length, and the allocator as nothing. Nothing is kept
+//! between calls, so calls on several threads don't meet.
 #![tactic(auto)]
 
 ghost use Rattle.std.specs.Prelude.{◌≡◌};
@@ -30,7 +30,7 @@ pub extern "C" fn txos_replay(
     replayed(alloc, text).hand_out(answer, size)
 }
 
-/// What the commands behind a schedule answer, as `txos debug` writes it.
+/// What the commands after a schedule answer, as `txos debug` writes it.
 #[unsafe(no_mangle)]
 pub extern "C" fn txos_debug(alloc: Global, text: &[u8], answer: &mut [u8], size: &mut usize) -> i32
     ensures { Gives (IsAnswered walks text.now) answer.old result answer.new size.new }
@@ -46,7 +46,7 @@ pub extern "C" fn txos_check(alloc: Global, text: &[u8], answer: &mut [u8], size
     checked(alloc, text).hand_out(answer, size)
 }
 
-/// The answers to the lines of a talk, as `txos shell` writes them. The form is 0 for text; any
+/// The answers to the lines of a session, as `txos shell` writes them. The form is 0 for text; any
 /// other number is for JSON. The status is never 1.
 #[unsafe(no_mangle)]
 pub extern "C" fn txos_shell(

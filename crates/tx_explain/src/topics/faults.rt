@@ -1,4 +1,4 @@
-//! What is said on standard error, with status 1.
+//! What is printed on standard error, with status 1.
 ghost use Rattle.std.specs.Prelude.{◌≡◌, map, IsTrue};
 ghost use Rattle.std.specs.List.{list_all};
 ghost use Rattle.tx_explain.specs.Table.{fault_rows};
@@ -6,7 +6,7 @@ ghost use Rattle.tx_explain.specs.Topics.{is_formed, row_of};
 
 use crate::topic::Topic;
 
-/// What is said on standard error, with status 1.
+/// What is printed on standard error, with status 1.
 pub fn topics() -> &'static [Topic]
     ensures rows { map row_of result.now ≡ fault_rows }
     ensures formed { IsTrue (list_all is_formed result.now) }

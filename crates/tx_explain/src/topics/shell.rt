@@ -1,4 +1,4 @@
-//! Commands of the shell that the debugger has not.
+//! Commands of the shell that the debugger lacks.
 ghost use Rattle.std.specs.Prelude.{◌≡◌, map, IsTrue};
 ghost use Rattle.std.specs.List.{list_all};
 ghost use Rattle.tx_explain.specs.Table.{shell_rows};
@@ -6,7 +6,7 @@ ghost use Rattle.tx_explain.specs.Topics.{is_formed, is_page, row_of};
 
 use crate::topic::Topic;
 
-/// Commands of the shell that the debugger has not.
+/// Commands of the shell that the debugger lacks.
 pub fn topics() -> &'static [Topic]
     ensures rows { map row_of result.now ≡ shell_rows }
     ensures formed { IsTrue (list_all is_formed result.now) }

@@ -1,4 +1,4 @@
-//! Finds what is answered to what is asked for, once for every form.
+//! Finds the answer to what is asked for, once for every form.
 ghost use Rattle.std.specs.Prelude.{◌≡◌, IfOk};
 ghost use Rattle.tx_journal.specs.Entries.{history_of};
 ghost use Rattle.tx_journal.specs.Sessions.{made_of, position_of, start_of, IsBetween, SameJournal};
@@ -24,7 +24,7 @@ use tx_journal::Session;
 use tx_lines::Command;
 use tx_script::Response;
 
-/// What is answered to what is asked for. It is printed with the session at the position to which that
+/// The answer to what is asked for. It is printed with the session at the position to which that
 /// led: the state, the steps and the position are printed from there.
 #[derive(Drop)]
 pub enum Answer {
@@ -46,7 +46,7 @@ pub enum Answer {
     Without(u16, Option<String>),
     /// How the step directly before the position changed a piece. Nothing where no step does.
     Change(Option<Change>),
-    /// Why a step would get this reply, and what the child for which it waits was refused last.
+    /// Why a step would get this reply, and the last refused step of the child that it waits for.
     Why(Step, Reply, Option<Attempt>),
     /// That no step was refused.
     NothingRefused,
@@ -87,10 +87,10 @@ impl Answer {
     }
 }
 
-/// Goes where what is asked for leads, and gives its answer. A cut lets go of no step yet.
+/// Goes where what is asked for leads, and gives its answer. A cut drops no step yet.
 ///
-/// NoMemory where a growth is refused: no step came or went then, and the position lies between the
-/// old one and that which is asked for.
+/// NoMemory where a growth is refused: no step came or went then, and the position is between the
+/// old one and the one that is asked for.
 pub fn find_answer(
     alloc: Global,
     session: &mut Session,

@@ -164,8 +164,8 @@ fn put_why(
     put_awaited(writer, &reason.holders)
 }
 
-/// Appends the last step of the child for which a process waits, where it was refused, and what it would
-/// get, as of the step that is asked about.
+/// Appends the last step of the child that a process waits for, where it was refused, and what it
+/// would get, as of the step that is asked about.
 fn put_child(
     alloc: Global,
     writer: &mut LineWriter,

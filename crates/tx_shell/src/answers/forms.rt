@@ -1,4 +1,4 @@
-//! Prints what a talk is answered, in its form.
+//! Prints what a session is answered, in its form.
 ghost use Rattle.std.specs.Prelude.{IfOk, OnOk, string_bytes};
 ghost use Rattle.tx_journal.specs.Entries.{history_of};
 ghost use Rattle.tx_journal.specs.Sessions.{made_of, position_of};
@@ -19,7 +19,7 @@ use tx_base::{NoMemory, Reply};
 use tx_journal::Session;
 use tx_script::Form;
 
-/// What is said of a step where steps are ahead.
+/// The answer to a step where steps are ahead.
 const AHEAD: &str = "steps are ahead; cut lets go of them, forward makes them again";
 
 /// The answer to a line without a word.

@@ -8,10 +8,10 @@ use std::str;
 use tx_base::NoMemory;
 use tx_explain::explain;
 
-/// What is said of a word that is not explained.
+/// The answer to a word that is not explained.
 const UNKNOWN: &str = "? not explained; help lists the commands, txos explain all other words\n";
 
-/// What is said of a word.
+/// The answer to a word.
 pub fn meaning(word: &[u8]) -> &'static str
     ensures { HelpsOn word.now result.now }
 {
@@ -21,7 +21,7 @@ pub fn meaning(word: &[u8]) -> &'static str
     }
 }
 
-/// What is said of a word that is text.
+/// The answer to a word that is text.
 fn meaning_of(word: &str) -> &'static str
     ensures page { IsTrue (is_page result.now) }
     ensures opens { IfSome (asked word.now) (λ name. IsTrue (opens name result.now)) }

@@ -20,8 +20,8 @@ use tx_journal::{Entry, Session};
 use tx_lines::{Version, put, put_step};
 use tx_text::put_named_reply;
 
-/// The steps of those numbers, a line each with its number, its worker and its reply, and the position
-/// where it is among them. Where that is none, how many steps there are.
+/// The steps of those numbers, a line each with its number, its worker and its reply, and the
+/// position where it is among them. Where none is among them, how many steps there are.
 ///
 /// NoMemory where a growth is refused.
 pub fn list_steps(
@@ -99,7 +99,7 @@ fn put_entries(
     Ok(())
 }
 
-/// Appends the line of an entry and the position behind it, where it is one of those.
+/// Appends the line of an entry and the position after it, where it is one of those.
 fn put_listed(
     text: &mut String,
     position: u64,

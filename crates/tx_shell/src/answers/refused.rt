@@ -13,7 +13,7 @@ use tx_base::{NoMemory, Pid, Slots, Step, WIDE_PROCESSES};
 /// Which steps were refused. It takes its memory at the start.
 #[derive(Drop)]
 pub struct Refused {
-    /// The last of all that were to be made and were refused.
+    /// The last of all that had to be made and were refused.
     pub last: Option<Step>,
     /// Of each process its last step, where that was refused.
     own: Slots<Step>,
@@ -55,7 +55,7 @@ impl Refused {
         }
     }
 
-    /// Lets go of the last step of a process that was refused.
+    /// Drops the last step of a process that was refused.
     pub fn let_go(&mut self, process: Option<Pid>)
         ensures last { self.new.last ≡ self.old.last }
         ensures own { self.new.own

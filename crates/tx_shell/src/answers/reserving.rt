@@ -5,7 +5,7 @@ use tx_journal::Session;
 use tx_lines::Command;
 
 /// Makes room to keep what a command takes back, so that a walk forward exchanges it. Where that is
-/// refused, a walk forward makes each step anew.
+/// refused, a walk forward makes each step again.
 pub fn reserve_walk(session: &mut Session, command: Command)
     ensures { session.new ≡ session.old }
 {

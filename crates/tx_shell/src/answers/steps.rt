@@ -13,9 +13,9 @@ use tx_lines::put;
 use tx_script::{Form, WORKER};
 use tx_text::put_named_reply;
 
-/// Makes a step at the end of the journal, puts its reply where it is to stand, and the line of that in place
-/// of what the text had. Elsewhere it is not made, and both ways out are named. A step that is accepted is
-/// moved into its entry, any other stays.
+/// Makes a step at the end of the journal, puts its reply in its place, and the line of that in
+/// place of what the text had. Elsewhere it is not made, and both ways out are named. A step that
+/// is accepted is moved into its entry, any other stays.
 ///
 /// NoMemory where a growth is refused; no step came or went then. The text has nothing to be shown.
 pub fn answer_step(
@@ -40,8 +40,8 @@ pub fn answer_step(
     put_ahead(alloc, form, text)
 }
 
-/// Makes a step at the end of the journal, puts its reply where it is to stand, and the line of that in place
-/// of what the text had.
+/// Makes a step at the end of the journal, puts its reply in its place, and the line of that in
+/// place of what the text had.
 ///
 /// NoMemory where a growth is refused; no step came or went then.
 fn make_step(
@@ -96,7 +96,7 @@ pub fn put_reply_line(text: &mut String, reply: &Reply) -> Result<(), AllocError
     put(text, "\n")
 }
 
-/// Takes the step after so many back, if it was made, and lets go of it. It takes no memory.
+/// Takes the step after so many back, if it was made, and drops it. It takes no memory.
 fn take_back(session: &mut Session, count: usize)
     requires at_end { IsAtEnd session.old }
     requires one { length session.old.entries ≤ count + 1 }

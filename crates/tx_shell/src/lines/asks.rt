@@ -1,4 +1,4 @@
-//! What a talk is asked for by lines that are no steps.
+//! What a session is asked for by lines that are no steps.
 ghost use Rattle.std.specs.Prelude.{◌≡◌, ◌≢◌, ◌<◌, ◌≤◌, ◌^◌, ◌++◌, ◌∷◌, ℕ, List, MatchOption, IfSome, None, codes, false, true};
 ghost use Rattle.std.specs.Fmt.{decimal};
 ghost use Rattle.tx_lines.specs.Schedule.{IsNoStep};
@@ -16,7 +16,7 @@ use tx_journal::Piece;
 use tx_lines::{Command, read_command, read_pid, read_position, read_step, split_word};
 use tx_plain::is_name;
 
-/// What a talk is asked for by a line that is no step.
+/// What a session is asked for by a line that is no step.
 #[derive(Drop)]
 pub enum Ask<'a> {
     /// A command of the debugger.
@@ -31,32 +31,32 @@ pub enum Ask<'a> {
     StepsBetween(u64, u64),
     /// To print the text of the schedule that makes the steps up to the position.
     Text,
-    /// To tell what a step would be answered, and how the state would differ after it.
+    /// To report what a step would be answered, and how the state would differ after it.
     Try(Step),
     /// To go back to the step that changed this piece last.
     When(Piece),
     /// To go on to the step that changes it next.
     Next(Piece),
-    /// To tell how the state at the second of these positions differs from that at the first.
+    /// To report how the state at the second of these positions differs from that at the first.
     Diff(u64, u64),
-    /// To tell how the state would differ that an abort of the transaction of this starter would leave.
+    /// To report how the state would differ after an abort of the transaction of this starter.
     Without(u16),
-    /// To tell why a step would be refused.
+    /// To report why a step would be refused.
     Why(Step),
-    /// To tell why the step would be that was refused last.
+    /// To report why the step that was refused last would be refused.
     WhyRefused,
-    /// To tell what each live transaction has reserved.
+    /// To report what each live transaction has reserved.
     Owns,
-    /// To tell what the live transaction of this starter has reserved.
+    /// To report what the live transaction of this starter has reserved.
     OwnsOf(u16),
-    /// To tell who has this pipe open.
+    /// To report who has this pipe open.
     HoldsPipe(PipeNo),
-    /// To tell who has this description open.
+    /// To report who has this description open.
     HoldsDesc(DescNo),
     /// To give a process, 1 to 256, a name: 1 to 16 letters, digits, `.`, `_`, `+` and `-`. Only in
     /// version 3.
     Name(Pid, &'a str),
-    /// To let go of the steps after the position.
+    /// To drop the steps after the position.
     Cut,
     /// To say what can be asked for.
     Help,
@@ -65,7 +65,7 @@ pub enum Ask<'a> {
 }
 
 impl Ask<'_> {
-    /// Whether steps are to be let go of.
+    /// Whether steps must be dropped.
     pub fn lets_go(&self) -> bool
         ensures { result ≡ lets_go self.now }
     {
@@ -144,7 +144,7 @@ fn read_words(line: &[u8]) -> Option<Ask<'static>>
     None
 }
 
-/// What a line asks for that has numbers behind its first word.
+/// What a line asks for that has numbers after its first word.
 fn read_numbered(line: &[u8]) -> Option<Ask<'static>>
     ensures found { IfSome result (λ ask. line.now ≡ ask_text ask) }
     ensures fits { (version : TheVersion) → IfSome result (FitsAsk version) }
@@ -216,7 +216,7 @@ fn read_name_word(word: &[u8]) -> Option<&str>
     }
 }
 
-/// Which steps are to be listed, by one number or two.
+/// Which steps to list, by one number or two.
 fn read_steps(numbers: &[u8]) -> Option<Ask<'static>>
     ensures found { IfSome result (λ ask. codes "steps " ++ numbers.now ≡ ask_text ask) }
     ensures fits { (version : TheVersion) → IfSome result (FitsAsk version) }

@@ -16,7 +16,7 @@ use tx_plain::{Naming, Room, naming_in, plain_line, split_word};
 /// What a line means, as a line of version 1 or 2.
 #[derive(Drop)]
 pub enum Words<'a> {
-    /// It stands in the line itself, or in the room of its caller.
+    /// It is in the line itself, or in the room of its caller.
     Lent(&'a [u8]),
     /// It was put together.
     Made(Vec<u8>),
@@ -112,7 +112,7 @@ fn asks_of_step(word: &[u8]) -> bool
     word == b"try".as_slice() || word == b"why".as_slice()
 }
 
-/// What a line means that has this step behind a word. The step is put into the room where it is
+/// What a line means that has this step after a word. The step is put into the room where it is
 /// spelled otherwise.
 fn with_step(alloc: Global, room: &mut Room, word: &[u8], step: &[u8]) -> Result<Vec<u8>, NoMemory>
     ensures { IfOk result (λ words. words.items
@@ -164,7 +164,7 @@ fn before_return(line: &[u8]) -> &[u8]
     }
 }
 
-/// What stands before that end of a line. Nothing where the line does not end so.
+/// What is before that end of a line. Nothing where the line does not end so.
 fn before_end<'a>(end: &[u8], line: &'a [u8]) -> Option<&'a [u8]>
     ensures { MatchOption result ((front : List ℕ) → line.now ≢ front ++ end.now) (λ front.
         line.now ≡ front.now ++ end.now) }

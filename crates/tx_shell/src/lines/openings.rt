@@ -1,4 +1,4 @@
-//! Reads the header of a talk.
+//! Reads the header of a session.
 ghost use Rattle.std.specs.Prelude.{◌≡◌, IfOk, IfSome, MatchOption};
 ghost use Rattle.tx_lines.specs.Lines.{FitsHeader};
 ghost use Rattle.tx_shell.specs.Origins.{origin_said, version_of, SaysNoOrigin, SaysOrigin};

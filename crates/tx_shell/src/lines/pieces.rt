@@ -53,7 +53,7 @@ fn read_of_process(words: &[u8]) -> Option<Piece>
     pid_behind(b"ids ", words).map(Piece::Ids)
 }
 
-/// The process number behind that front. Nothing where something else is there.
+/// The process number after that front. Nothing where something else is there.
 fn pid_behind(front: &[u8], words: &[u8]) -> Option<Pid>
     ensures found { IfSome result (λ pid. words.now ≡ front.now ++ decimal pid.0) }
     ensures fits { IfSome result (λ pid. pid.0 < 2 ^ 16) }
@@ -63,7 +63,7 @@ fn pid_behind(front: &[u8], words: &[u8]) -> Option<Pid>
     read_pid(behind(front, words)?)
 }
 
-/// The number below 256 behind that front. Nothing where something else is there.
+/// The number below 256 after that front. Nothing where something else is there.
 pub fn byte_behind(front: &[u8], words: &[u8]) -> Option<u8>
     ensures found { IfSome result (λ byte. words.now ≡ front.now ++ decimal byte) }
     ensures fits { IfSome result (λ byte. byte < 2 ^ 8) }
@@ -73,7 +73,8 @@ pub fn byte_behind(front: &[u8], words: &[u8]) -> Option<u8>
     read_byte(behind(front, words)?)
 }
 
-/// The process number and the number below 256 behind that front. Nothing where something else is there.
+/// The process number and the number below 256 after that front. Nothing where something else is
+/// there.
 fn pid_byte_behind(front: &[u8], words: &[u8]) -> Option<(Pid, u8)>
     ensures found { IfSome result (λ r. words.now ≡ front.now ++ two_text r.0.0 r.1) }
     ensures fits { IfSome result (λ r. (r.0.0 < 2 ^ 16) × (r.1 < 2 ^ 8)) }

@@ -4,7 +4,7 @@ ghost use Rattle.tx_shell.specs.Origins.{grammar_of};
 
 use tx_lines::Version;
 
-/// Of which version the lines of a talk are.
+/// Of which version the lines of a session are.
 #[derive(Clone, Copy)]
 pub enum TextVersion {
     One,

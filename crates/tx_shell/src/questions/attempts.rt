@@ -1,4 +1,4 @@
-//! Tells what the child for which a process waits was refused last.
+//! Reports the last refused step of the child that a process waits for.
 ghost use Rattle.std.specs.Prelude.{◌≡◌, ◌++◌, IfOk, OnOk, option_map, string_bytes};
 ghost use Rattle.tx_journal.specs.Entries.{history_of};
 ghost use Rattle.tx_journal.specs.Sessions.{made_of, start_of};
@@ -50,7 +50,7 @@ pub fn child_attempt(
     }))
 }
 
-/// The child for whose end a step waits that would get this reply.
+/// The child whose end a step waits for that would get this reply.
 fn awaited_child(step: &Step, reply: &Reply) -> Option<Pid>
     ensures { option_map (λ child. child.0) result ≡ awaited_child step.now reply.now }
 {
@@ -60,8 +60,8 @@ fn awaited_child(step: &Step, reply: &Reply) -> Option<Pid>
     }
 }
 
-/// Appends the last step of the child for which a process waits, where it was refused, and why it would
-/// be refused at the position, or what else it would be answered.
+/// Appends the last step of the child that a process waits for, where it was refused, and why it
+/// would be refused at the position, or what else it would be answered.
 pub fn put_attempt(
     text: &mut String,
     session: &Session,
@@ -106,7 +106,7 @@ fn put_outcome(
     }
 }
 
-/// Appends what a step would be answered that is not refused.
+/// Appends the answer to a step that would not be refused.
 fn put_answered(text: &mut String, reply: &Reply) -> Result<(), AllocError>
     ensures { OnOk result
         (string_bytes text.new ≡ string_bytes text.old ++ answered_text reply.now) }

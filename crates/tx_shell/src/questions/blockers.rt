@@ -26,8 +26,8 @@ use tx_lines::put;
 use tx_reserve::{Object, Objects};
 use tx_waits::Kind;
 
-/// An object that a step names, and that a live transaction has reserved of which its process is no
-/// member.
+/// An object that a step names, and that is reserved by a live transaction of which its process is
+/// no member.
 #[derive(Clone, Copy)]
 pub struct Blocker<'a> {
     pub kind: Kind,

@@ -20,14 +20,14 @@ use tx_lines::{Command, put};
 pub struct Change {
     /// The lines that the piece had before it.
     before: String,
-    /// The lines that it has behind it.
+    /// The lines that it has after it.
     after: String,
 }
 
-/// Goes back to the position behind the step that changed a piece last: how it did. Nothing where none
-/// did, and the position is the start. It pays for the steps between.
+/// Goes back to the position after the step that changed a piece last: how it did. Nothing where
+/// none did, and the position is the start. It costs the steps between.
 ///
-/// NoMemory where a growth is refused: the position is then the old one, or lies before it.
+/// NoMemory where a growth is refused: the position is then the old one, or before it.
 pub fn find_last(
     alloc: Global,
     session: &mut Session,
@@ -49,10 +49,10 @@ pub fn find_last(
     }
 }
 
-/// Goes on to the position behind the step that changes a piece next: how it does. Nothing where none
-/// does, and the position is the end. It pays for the steps between.
+/// Goes on to the position after the step that changes a piece next: how it does. Nothing where
+/// none does, and the position is the end. It costs the steps between.
 ///
-/// NoMemory where a growth is refused: the position is then the old one, or lies behind it.
+/// NoMemory where a growth is refused: the position is then the old one, or after it.
 pub fn find_next(
     alloc: Global,
     session: &mut Session,
@@ -72,8 +72,8 @@ pub fn find_next(
     }
 }
 
-/// The lines that tell the step directly before the position, which was found to change a piece, or that
-/// none was.
+/// The lines that report the step directly before the position, which was found to change a piece,
+/// or that none was.
 ///
 /// NoMemory where a growth is refused.
 pub fn tell_found(
@@ -101,8 +101,8 @@ pub fn tell_found(
     Ok(text)
 }
 
-/// Takes steps back as long as a piece has these lines. Answers the others that it has then; nothing at
-/// the start.
+/// Takes steps back as long as a piece has these lines. Answers the lines that it has then; nothing
+/// at the start.
 fn go_back(
     alloc: Global,
     session: &mut Session,
@@ -127,8 +127,8 @@ fn go_back(
     Ok(None)
 }
 
-/// Makes steps again as long as a piece has these lines. Answers the others that it has then; nothing at
-/// the end.
+/// Makes steps again as long as a piece has these lines. Answers the lines that it has then;
+/// nothing at the end.
 fn go_on(
     alloc: Global,
     session: &mut Session,

@@ -12,8 +12,8 @@ use tx_base::NoMemory;
 use tx_journal::{GotoFault, Session, all_pieces, print_pieces};
 use tx_lines::Command;
 
-/// By which lines the state at a position differs from that at another one, where both are there. It goes
-/// to both and back, so it pays for the steps between them, and for the texts of both states.
+/// By which lines the state at a position differs from that at another one, where both are there.
+/// It goes to both and back, so it costs the steps between them, and the texts of both states.
 ///
 /// NoMemory where a growth is refused: the position is then among the old one and those two.
 pub fn compare(

@@ -1,4 +1,4 @@
-//! Tells by which lines texts differ.
+//! Reports by which lines texts differ.
 ghost use Rattle.std.specs.Prelude.{◌≡◌, ◌++◌, ◌∷◌, [], IfOk, OnOk, bytes_eq, map, string_bytes};
 ghost use Rattle.std.specs.List.{position};
 ghost use Rattle.std.specs.Str.Lines.{lines};
@@ -10,7 +10,7 @@ use tx_base::NoMemory;
 
 /// Appends how each of some texts differs from the one of the others that has its place.
 ///
-/// NoMemory where a growth is refused; some of the lines may then stand behind the text.
+/// NoMemory where a growth is refused; some of the lines may then be after the text.
 pub fn put_all_differing(
     text: &mut String,
     before: &[String],
@@ -26,10 +26,10 @@ pub fn put_all_differing(
     Ok(())
 }
 
-/// Appends the lines of a text that another has not, and then those of the other that it has not, a line
-/// each. Each line of the one is looked for in the other, from its first line on that is left.
+/// Appends the lines of a text that another lacks, and then those of the other that it lacks, a
+/// line each. Each line of the one is looked for in the other, among the lines that are left.
 ///
-/// NoMemory where a growth is refused; some of the lines may then stand behind the text.
+/// NoMemory where a growth is refused; some of the lines may then be after the text.
 pub fn put_differing(text: &mut String, before: &str, after: &str) -> Result<(), NoMemory>
     ensures { OnOk result (string_bytes text.new
         ≡ string_bytes text.old ++ differing before.now after.now) }
@@ -49,7 +49,7 @@ fn lines_in(alloc: Global, text: &str) -> Result<Vec<&str>, AllocError>
     text.lines().collect(alloc)
 }
 
-/// Appends the lines that the others do not have, each behind a mark.
+/// Appends the lines that the others do not have, each after a mark.
 fn put_left_over(
     text: &mut String,
     mark: &str,
@@ -91,7 +91,7 @@ fn place_of(others: &[&str], line: &str) -> Option<usize>
     others.iter().position(|other| *other == line)
 }
 
-/// Appends a line behind a mark.
+/// Appends a line after a mark.
 fn put_marked(text: &mut String, mark: &str, line: &str) -> Result<(), AllocError>
     ensures { OnOk result (string_bytes text.new
         ≡ string_bytes text.old ++ (mark.now ++ (line.now ++ 10 ∷ []))) }

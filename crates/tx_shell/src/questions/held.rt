@@ -1,4 +1,4 @@
-//! Tells who has a pipe or a description open.
+//! Reports who has a pipe or a description open.
 ghost use Rattle.std.specs.Prelude.{◌≡◌, ◌++◌, ◌∷◌, IfOk, OnOk, Some, is_some, option_map, string_bytes};
 ghost use Rattle.tx_desc.specs.Descriptions.{described};
 ghost use Rattle.tx_model.specs.View.{present};

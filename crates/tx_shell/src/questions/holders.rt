@@ -1,4 +1,4 @@
-//! Tells who has a side of a pipe open.
+//! Reports who has a side of a pipe open.
 ghost use Rattle.std.specs.Prelude.{◌≡◌, ◌++◌, ◌∷◌, OnOk, string_bytes};
 ghost use Rattle.tx_desc.specs.Descriptions.{end_for};
 ghost use Rattle.tx_shell.specs.Holders.{holders_line, next_text, nobody_line, side_word};

@@ -1,4 +1,4 @@
-//! Tells what live transactions have reserved.
+//! Reports what live transactions have reserved.
 ghost use Rattle.std.specs.Prelude.{◌≡◌, ◌++◌, IfOk, OnOk, string_bytes};
 ghost use Rattle.tx_lines.specs.Lists.{some_after};
 ghost use Rattle.tx_live.specs.Content.{view_of};
@@ -93,8 +93,8 @@ pub fn is_live(machine: &Machine, starter: Pid) -> bool
     machine.txn_of(starter) == Some(starter)
 }
 
-/// Appends the numbers of a kind that the transaction of a starter has reserved, in rising order, behind the
-/// word for the kind.
+/// Appends the numbers of a kind that the transaction of a starter has reserved, in rising order,
+/// after the word for the kind.
 fn put_owned(
     text: &mut String,
     names: Names<'_>,
@@ -114,8 +114,8 @@ fn put_owned(
     put(text, dash(some))
 }
 
-/// Appends a number of a kind where it is listed, after a comma where it is not the first, and the name
-/// of a process behind its number. Answers whether there is one so far.
+/// Appends a number of a kind where it is listed, after a comma where it is not the first, and the
+/// name of a process after its number. Answers whether there is one so far.
 fn put_number(
     text: &mut String,
     names: Names<'_>,

@@ -1,4 +1,4 @@
-//! Tells why a step would be refused.
+//! Reports why a step would be refused.
 ghost use Rattle.std.specs.Prelude.{◌≡◌, ◌++◌, ℕ, IfOk, List, OnOk, map, string_bytes};
 ghost use Rattle.tx_base.specs.declared.steps.Reply.TheVariants.{No};
 ghost use Rattle.tx_journal.specs.Entries.{history_of};
@@ -22,7 +22,7 @@ use tx_lines::{put, refusal_word};
 use tx_text::put_named_reply;
 use tx_waits::awaited_holders;
 
-/// What there is to tell of the reply that a step would get.
+/// What is reported of the reply that a step would get.
 #[derive(Drop)]
 pub struct Reason<'a> {
     /// The objects in its way, where a transaction has some.
@@ -31,7 +31,7 @@ pub struct Reason<'a> {
     pub holders: Option<Vec<Holder>>,
 }
 
-/// What there is to tell of a step that would get this reply at the position. The only error is that a
+/// What is reported of a step that would get this reply at the position. The only error is that a
 /// growth of memory was refused.
 pub fn reason_of<'a>(
     alloc: Global,
@@ -65,8 +65,8 @@ fn blockers_by<'a>(
     }
 }
 
-/// Why a step would get this reply at the position, and what the child for which it waits was refused
-/// last.
+/// Why a step would get this reply at the position, and the last refused step of the child that it
+/// waits for.
 ///
 /// NoMemory where a growth is refused.
 pub fn tell_why(

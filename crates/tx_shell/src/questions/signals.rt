@@ -1,4 +1,5 @@
-//! Tells which signals of a step have two answers: one now, and another if a transaction were aborted.
+//! Reports which signals of a step have two answers: one now, and another if a transaction were
+//! aborted.
 ghost use Rattle.std.specs.Prelude.{◌≡◌, ◌++◌, OnOk, string_bytes};
 ghost use Rattle.tx_journal.specs.Entries.{history_of};
 ghost use Rattle.tx_journal.specs.Sessions.{made_of, start_of};
@@ -21,7 +22,7 @@ use tx_waits::Kind;
 /// answers, by rising starters: the first such signal, how it would be answered now, and how after an
 /// abort.
 ///
-/// NoMemory where a growth is refused; some of the lines may then stand behind the text.
+/// NoMemory where a growth is refused; some of the lines may then be after the text.
 pub fn put_signals(
     text: &mut String,
     session: &Session,
@@ -38,7 +39,7 @@ pub fn put_signals(
     Ok(())
 }
 
-/// Appends the line of a starter, where it is such a one.
+/// Appends the line of a starter, where it is one.
 fn put_signal(
     text: &mut String,
     session: &Session,

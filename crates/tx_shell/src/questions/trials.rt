@@ -1,4 +1,4 @@
-//! Answers what would be, and leaves all as it is.
+//! Answers what would be, and leaves everything as it is.
 ghost use Rattle.std.specs.Prelude.{◌≡◌, IfOk, option_map, string_bytes};
 ghost use Rattle.tx_journal.specs.Entries.{history_of};
 ghost use Rattle.tx_journal.specs.Sessions.{made_of, start_of};
@@ -11,8 +11,8 @@ use std::alloc::Global;
 use tx_base::{NoMemory, Pid, Reply, Step};
 use tx_journal::{Session, print_pieces};
 
-/// How the state would differ that an abort of the live transaction of a starter would leave. Nothing
-/// where it has none.
+/// How the state would differ after an abort of the live transaction of a starter. Nothing where it
+/// has none.
 ///
 /// NoMemory where a growth is refused.
 pub fn without(
@@ -31,8 +31,8 @@ pub fn without(
     Ok(Some(lines))
 }
 
-/// The reply that a step would get at the position, and how the state after it would differ. It prints
-/// the pieces of the state alone that the step may change.
+/// The reply that a step would get at the position, and how the state after it would differ. It
+/// prints only the pieces of the state that the step may change.
 ///
 /// NoMemory where a growth is refused.
 pub fn try_at(

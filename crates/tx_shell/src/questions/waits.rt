@@ -1,4 +1,4 @@
-//! Tells what a step waits for.
+//! Reports what a step waits for.
 ghost use Rattle.std.specs.Prelude.{◌≡◌, ◌++◌, ◌<◌, OnOk, option_map, string_bytes};
 ghost use Rattle.tx_journal.specs.Entries.{history_of};
 ghost use Rattle.tx_journal.specs.Sessions.{made_of, start_of};

@@ -19,9 +19,9 @@ pub struct Console<R: BufRead + Drop, W: Write + Drop> {
 
 impl<R: BufRead + Drop, W: Write + Drop> Console<R, W> {
     /// A terminal over these ends: the lines that come are those of the bytes that the reader has
-    /// left, and the texts that go are written behind one another. Where it prompts, a person is at
-    /// both: it then shows at once how to get help, and the position before each line; and where the
-    /// input ends behind a prompt, it ends the line of that.
+    /// left, and the texts that go are written one after another. Where it prompts, a person is at
+    /// both: it then shows at once how to get help, and the position before each line; and where
+    /// the input ends after a prompt, it ends the prompt's line.
     pub fn new(reader: R, writer: W, prompts: bool) -> Console<R, W>
         ensures reader { result.reader ≡ reader }
         ensures writer { result.writer ≡ writer }
@@ -57,7 +57,7 @@ impl<R: BufRead + Drop, W: Write + Drop> Console<R, W> {
         write!(self.writer, "txos {position}> ").is_ok() && self.writer.flush().is_ok()
     }
 
-    /// Ends the line of a prompt, where there is one, behind which the input ended.
+    /// Ends the line of a prompt, where there is one, after which the input ended.
     fn end_prompt(&mut self)
         ensures reader { self.new.reader ≡ self.old.reader }
         ensures prompts { self.new.prompts ≡ self.old.prompts }

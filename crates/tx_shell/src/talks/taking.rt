@@ -1,4 +1,4 @@
-//! Takes a line from a reader, and of a long one no more than its front.
+//! Takes a line from a reader, and of a long one only its front.
 ghost use Rattle.std.specs.Prelude.{◌≡◌, ◌≤◌, ◌++◌, IfOk, IfSome, OnOk, length, take};
 ghost use Rattle.tx_shell.specs.Cuts.{TakesLine, TakesPart};
 ghost use Rattle.tx_shell.specs.declared.talks.taking.Next.TheVariants.{Open};
@@ -7,8 +7,8 @@ use std::alloc::AllocError;
 use std::io::{BufRead, Error, ErrorKind, Result};
 use tx_lines::{LINE_BYTES, take_line};
 
-/// How many bytes of a line are kept: two more than a line of a text may have, so that a longer one is
-/// one also where its last byte is a 13, which is no part of a line of version 3.
+/// How many bytes of a line are kept: two more than a line of a text may have, so that a line is
+/// seen to be too long even where its last byte is a 13, which is no part of a line of version 3.
 const LINE_MOST: usize = LINE_BYTES + 2;
 
 /// How a line goes on.
@@ -23,7 +23,7 @@ enum Next {
 }
 
 /// Takes a line with its end, and appends its bytes without the end, or as many of them as there is
-/// room for: the others are let go of. Answers whether its end came; if not, the input ended.
+/// room for: the others are dropped. Answers whether its end came; if not, the input ended.
 ///
 /// An error where the reader fails, or a growth of memory is refused: some bytes of the line may be gone
 /// then.

@@ -1,6 +1,6 @@
 //! What lines come from and answers go to.
 
-/// What came of asking for a line.
+/// What asking for a line gave.
 #[derive(Clone, Copy, PartialEq, Eq, Debug)]
 pub enum Got {
     /// A line came.
@@ -22,8 +22,8 @@ pub trait Terminal {
     ghost traffic: { Self → Traffic };
 
     /// Waits for the next line, at that position of the session, and puts it, without its end, in
-    /// place of what the buffer had. Of a line of more than 514 bytes these are the first 514: a line
-    /// of more than 512 is told of as too long, whatever it says.
+    /// place of what the buffer had. Of a line of more than 514 bytes these are the first 514: a
+    /// line of more than 512 is reported as too long, whatever it says.
     fn line(&mut self, position: usize, line: &mut Vec<u8>) -> Got
         ensures came { result ≡ got.Line →
             Continues (traffic self.old) (Line line.new.items ∷ []) (traffic self.new) }

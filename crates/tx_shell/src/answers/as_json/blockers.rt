@@ -1,4 +1,4 @@
-//! Tells as JSON which objects are in the way of a step.
+//! Reports as JSON which objects are in the way of a step.
 ghost use Rattle.std.specs.Prelude.{◌≡◌, ◌++◌, OnOk, map, option_map};
 ghost use Rattle.tx_journal.specs.Since.{numbered};
 ghost use Rattle.tx_json.specs.Each.{each_tokens};

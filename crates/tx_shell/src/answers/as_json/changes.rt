@@ -1,4 +1,4 @@
-//! Tells as JSON which step changed a piece of the state last, or changes it next.
+//! Reports as JSON which step changed a piece of the state last, or changes it next.
 ghost use Rattle.std.specs.Prelude.{◌≡◌, ◌≤◌, ◌++◌, IfSome, OnOk};
 ghost use Rattle.tx_journal.specs.Sessions.{position_of};
 ghost use Rattle.tx_shell.specs.Members.{change_member};

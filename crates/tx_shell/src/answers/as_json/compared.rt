@@ -1,4 +1,4 @@
-//! Tells as JSON which positions are compared.
+//! Reports as JSON which positions are compared.
 ghost use Rattle.std.specs.Prelude.{◌≡◌, ◌++◌, OnOk};
 ghost use Rattle.tx_shell.specs.Members.{compared_members, not_compared_members};
 

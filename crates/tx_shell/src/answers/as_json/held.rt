@@ -1,4 +1,4 @@
-//! Tells as JSON who has a pipe or a description open.
+//! Reports as JSON who has a pipe or a description open.
 ghost use Rattle.std.specs.Prelude.{◌≡◌, ◌++◌, OnOk, option_map};
 ghost use Rattle.tx_shell.specs.Held.{desc_held, desc_members, pipe_held, pipe_members};
 

@@ -1,4 +1,4 @@
-//! Tells as JSON which processes have a name.
+//! Reports as JSON which processes have a name.
 ghost use Rattle.std.specs.Prelude.{◌≡◌, ◌++◌, OnOk};
 ghost use Rattle.tx_shell.specs.Names.{has_name, named, named_item, names_member};
 ghost use Rattle.tx_waits.specs.Kinds.{limit_of};

@@ -1,4 +1,4 @@
-//! Tells as JSON what live transactions have reserved, and what would be without one.
+//! Reports as JSON what live transactions have reserved, and what would be without one.
 ghost use Rattle.std.specs.Prelude.{◌≡◌, ◌++◌, ◌<◌, OnOk};
 ghost use Rattle.tx_live.specs.Content.{view_of};
 ghost use Rattle.tx_waits.specs.Kinds.{limit_of};
