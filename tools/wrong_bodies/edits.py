@@ -4,12 +4,15 @@ An edit file has lines `file: PATH`, `old: TEXT` and `new: TEXT`. A pair of the
 last two is one wrong body. A line `with: the pair before` in front of a pair
 says that the two are one, as where the first adds what the second calls.
 """
+from collections import namedtuple
 from pathlib import Path
 
 from . import places
 
 FOLDERS = ("must-fail", "bodies")
 WITH = "with: the pair before"
+# What is read of a crate here: its name and its folder.
+Crate = namedtuple("Crate", "name folder")
 
 
 class Body:
@@ -37,6 +40,13 @@ class Body:
         if any(it.functions[0].name == own or it.names(self) or self.names(it) for it in others):
             return False
         return texts_with([*others, self]) is not None
+
+
+def crates_in(top):
+    """The crates of a checkout by their names, lowest first, as crates.txt has them."""
+    lines = Path(top, "crates.txt").read_text(encoding="utf-8").splitlines()
+    names = [line.split(":")[0].split()[0] for line in lines if line and not line.startswith("#")]
+    return {name: Crate(name, str(Path(top, "crates", name))) for name in names}
 
 
 def bodies_of(crate):
