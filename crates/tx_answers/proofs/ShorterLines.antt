@@ -2,7 +2,7 @@
 use Rattle.std.proofs.Common.{◌≡◌, ◌<◌, ℕ, List, [], ◌∷◌, Option, Some, None, inl, inr, length, refl, ap, arith}
 use Rattle.std.proofs.lemmas.Bool.Decides.{eqb_tells}
 use Rattle.tx_lines.specs.Schedule.{after_line}
-use Rattle.tx_plain.specs.MeantLines.{behind, behind_by}
+use Rattle.tx_translate.specs.MeantLines.{behind, behind_by}
 
 rest_shorter : (text rest : List ℕ) → after_line text ≡ Some rest → length rest < length text
 rest_shorter [] rest e = absurd (cc)

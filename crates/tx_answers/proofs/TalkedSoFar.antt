@@ -1,7 +1,7 @@
 -- A talk over a text, as far as it has come.
 use Rattle.std.proofs.Common.{◌≡◌, ◌≢◌, ℕ, List, [], ◌∷◌, ◌++◌, Option, Some, inl, inr, refl, sym, subst, append_assoc}
 use Rattle.std.proofs.lemmas.List.{append-nil}
-use Rattle.tx_plain.specs.MeantLines.{behind}
+use Rattle.tx_translate.specs.MeantLines.{behind}
 use Rattle.tx_shell.specs.Cuts.{front_line}
 use Rattle.tx_shell.specs.Events.{ComeFrom, End, Event, GoTo, Line, Talks, Text}
 use Rattle.tx_shell.specs.Standings.{first_standing, Answers, IsQuit, Standing}

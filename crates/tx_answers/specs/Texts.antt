@@ -4,7 +4,7 @@ use Rattle.tx_check.specs.Told.{IsToldOf}
 use Rattle.tx_lines.specs.Schedule.{FaultsBy}
 use Rattle.tx_lines.specs.declared.faults.Fault.{Fault}
 use Rattle.tx_lines.specs.declared.faults.Fault.TheVariants.{TooLong}
-use Rattle.tx_plain.specs.Meant.{IsOwnFault}
+use Rattle.tx_translate.specs.Meant.{IsOwnFault}
 use Rattle.tx_script.specs.Grammars.{AnswersText, Grammar}
 use Rattle.tx_answers.specs.Faults.{TellsFault}
 use Rattle.tx_answers.specs.declared.answers.Answer.{Answer}

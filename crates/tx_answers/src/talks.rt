@@ -1,6 +1,6 @@
 //! What the lines of a session are answered, where all of them are there.
 ghost use Rattle.std.specs.Prelude.{◌≡◌, IfOk, string_bytes};
-ghost use Rattle.tx_plain.specs.MeantLines.{behind};
+ghost use Rattle.tx_translate.specs.MeantLines.{behind};
 ghost use Rattle.tx_shell.specs.Cuts.{front_line};
 ghost use Rattle.tx_answers.specs.Talks.{form_of, IsTalked, IsTalkOf};
 
@@ -8,9 +8,9 @@ use crate::answers::Answer;
 use std::alloc::Global;
 use tx_base::NoMemory;
 use tx_lines::{LINE_BYTES, put, take_line};
-use tx_plain::Room;
 use tx_script::Form;
 use tx_shell::Shell;
+use tx_translate::Room;
 
 /// How many bytes of a line are looked at, as at a terminal: a longer line is reported as too long.
 const LINE_MOST: usize = LINE_BYTES + 2;

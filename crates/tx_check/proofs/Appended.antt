@@ -4,12 +4,12 @@ use Rattle.std.specs.Fmt.{decimal}
 use Rattle.std.specs.Prelude.{All}
 use Rattle.std.proofs.lemmas.List.Elements.{All-append}
 use Rattle.tx_lines.specs.Schedule.{lines_of}
-use Rattle.tx_plain.specs.Meant.{own_line}
+use Rattle.tx_translate.specs.Meant.{own_line}
 use Rattle.tx_check.specs.Numbered.{line_at}
 use Rattle.tx_check.specs.Speaking.{line_sentence, FaultKind, IsOfKind, SpeaksAt}
 use Rattle.tx_check.specs.declared.trouble.LineTrouble.TheVariants.{TooLong}
 use Rattle.tx_check.specs.Told.{last_line, told_text, AreRising, IsAmong, IsColumn, IsInLine, IsTold, IsToldIn, IsWrongOwn, Tells, TellsFrom, TellsOfKind, TellsUpTo, Told}
-use Rattle.tx_plain.specs.OwnLines.{without_return}
+use Rattle.tx_translate.specs.OwnLines.{without_return}
 
 line_append : (a b c d e s : List ℕ) → (a ++ (b ++ (c ++ (d ++ (e ++ s))))) ++ 10 ∷ [] ≡ a ++ (b ++ (c ++ (d ++ (e ++ (s ++ 10 ∷ [])))))
 line_append a b c d e s = simp append_assoc refl

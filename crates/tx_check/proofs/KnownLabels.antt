@@ -9,7 +9,7 @@ use Rattle.tx_check.specs.Stands.{begins_label}
 use Rattle.tx_check.specs.declared.labels.LabelLine.{LabelLine}
 use Rattle.tx_lines.specs.Programs.{label_front}
 use Rattle.tx_lines.specs.Schedule.{first_line}
-use Rattle.tx_plain.specs.MeantLines.{line_of}
+use Rattle.tx_translate.specs.MeantLines.{line_of}
 
 -- one line more is looked at
 more_by : (test : Bool) (number last : ℕ) (first line : List ℕ) (labels : List (ℕ × List ℕ)) →

@@ -16,15 +16,15 @@ use Rattle.tx_check.proofs.ToldOf.{are_one, told_fault}
 use Rattle.tx_lines.specs.Schedule.{first_line}
 use Rattle.tx_lines.specs.declared.faults.Fault.{Fault}
 use Rattle.tx_lines.specs.declared.faults.Fault.TheVariants.{NotALine, NoLabel, TooLong}
-use Rattle.tx_plain.specs.Lines.{plain_line, stage_after}
-use Rattle.tx_plain.specs.Meant.{fault_by, meant_of, own_line, IsOwnFault}
-use Rattle.tx_plain.specs.MeantLines.{left_of}
-use Rattle.tx_plain.specs.declared.meant_lines.MeantLines.{MeantLines}
-use Rattle.tx_plain.specs.OwnLines.{own_lines}
-use Rattle.tx_plain.specs.Plain.{is_third, line_among, numbered, numbers_from}
-use Rattle.tx_plain.specs.Words.{words_in}
-use Rattle.tx_plain.specs.declared.stage.Stage.{Stage}
-use Rattle.tx_plain.specs.declared.stage.Stage.TheVariants.{Heading}
+use Rattle.tx_translate.specs.Lines.{plain_line, stage_after}
+use Rattle.tx_translate.specs.Meant.{fault_by, meant_of, own_line, IsOwnFault}
+use Rattle.tx_translate.specs.MeantLines.{left_of}
+use Rattle.tx_translate.specs.declared.meant_lines.MeantLines.{MeantLines}
+use Rattle.tx_translate.specs.OwnLines.{own_lines}
+use Rattle.tx_translate.specs.Plain.{is_third, line_among, numbered, numbers_from}
+use Rattle.tx_translate.specs.Words.{words_in}
+use Rattle.tx_translate.specs.declared.stage.Stage.{Stage}
+use Rattle.tx_translate.specs.declared.stage.Stage.TheVariants.{Heading}
 
 pub lines_after : (more count : ℕ) (text : List ℕ) → after_lines more (after_lines count text) ≡ after_lines (more + count) text
 lines_after zero count text = rw zero-add refl

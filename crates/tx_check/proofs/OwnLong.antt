@@ -6,15 +6,15 @@ use Rattle.std.proofs.lemmas.Bool.{ltb-false, ne_eqb}
 use Rattle.tx_check.proofs.Growing.{behind_first, none_left}
 use Rattle.tx_check.specs.Numbered.{after_lines, behind, behind_by, line_at}
 use Rattle.tx_lines.specs.Schedule.{after_line, first_line}
-use Rattle.tx_plain.proofs.LineParts.{own_last, own_split}
-use Rattle.tx_plain.proofs.NextMeant.{third_next}
-use Rattle.tx_plain.specs.Lines.{plain_line, plain_of_words, short_or, stage_after}
-use Rattle.tx_plain.specs.Meant.{meant_of, own_line}
-use Rattle.tx_plain.specs.OwnLines.{own_lines, without_return}
-use Rattle.tx_plain.specs.Plain.{bare, ended, is_third, line_in, numbered, numbers_from, plain_from, plain_of}
-use Rattle.tx_plain.specs.Words.{words_in}
-use Rattle.tx_plain.specs.declared.stage.Stage.{Stage}
-use Rattle.tx_plain.specs.declared.stage.Stage.TheVariants.{Heading}
+use Rattle.tx_translate.proofs.LineParts.{own_last, own_split}
+use Rattle.tx_translate.proofs.NextMeant.{third_next}
+use Rattle.tx_translate.specs.Lines.{plain_line, plain_of_words, short_or, stage_after}
+use Rattle.tx_translate.specs.Meant.{meant_of, own_line}
+use Rattle.tx_translate.specs.OwnLines.{own_lines, without_return}
+use Rattle.tx_translate.specs.Plain.{bare, ended, is_third, line_in, numbered, numbers_from, plain_from, plain_of}
+use Rattle.tx_translate.specs.Words.{words_in}
+use Rattle.tx_translate.specs.declared.stage.Stage.{Stage}
+use Rattle.tx_translate.specs.declared.stage.Stage.TheVariants.{Heading}
 
 -- a line that means a long one is long
 long_by : (over : Bool) (line : List ℕ) (short : Option (List ℕ)) → 512 < length (bare (if over then Some line else short)) → (512 < length (bare short) → 512 < length line) → 512 < length line

@@ -8,7 +8,7 @@ use Rattle.std.specs.Char.{is_ascii_graphic}
 use Rattle.tx_check.proofs.InLine.{in_line_more}
 use Rattle.tx_check.specs.Speaking.{said_word, shown, IsByteAt}
 use Rattle.tx_check.specs.Told.{is_no_end, IsInLine}
-use Rattle.tx_plain.specs.OwnLines.{without_return}
+use Rattle.tx_translate.specs.OwnLines.{without_return}
 
 -- one byte more
 pub more_shown : (bytes : List ℕ) (at : ℕ) (old text : List ℕ) (byte : ℕ) (new : List ℕ) → at < length bytes → text ≡ old ++ map shown (take at bytes) → byte ≡ shown (slice_index_or bytes at 0) → new ≡ text ++ byte ∷ []

@@ -11,9 +11,9 @@ use Rattle.tx_check.specs.Told.{TellsFrom}
 use Rattle.tx_check.specs.declared.own.TextFrom.{TextFrom}
 use Rattle.tx_check.specs.declared.places.Part.{Part}
 use Rattle.tx_check.specs.declared.places.Part.TheVariants as parts
-use Rattle.tx_plain.specs.Meant.{meant_of, own_line}
-use Rattle.tx_plain.specs.MeantLines.{left_of}
-use Rattle.tx_plain.specs.declared.meant_lines.MeantLines.{MeantLines}
+use Rattle.tx_translate.specs.Meant.{meant_of, own_line}
+use Rattle.tx_translate.specs.MeantLines.{left_of}
+use Rattle.tx_translate.specs.declared.meant_lines.MeantLines.{MeantLines}
 
 -- both places are such that labels alone are looked at, or neither is
 pub record AreAlike (one other : Part) : Type 0 where

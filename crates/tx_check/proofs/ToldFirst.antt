@@ -10,8 +10,8 @@ use Rattle.tx_check.specs.declared.trouble.What.{What}
 use Rattle.tx_check.specs.declared.trouble.What.TheVariants as whats
 use Rattle.tx_lines.specs.declared.faults.Fault.{Fault}
 use Rattle.tx_lines.specs.declared.faults.Fault.TheVariants.{NotALine, NoLabel, TooLong}
-use Rattle.tx_plain.specs.Meant.{fault_by}
-use Rattle.tx_plain.specs.OwnLines.{without_return}
+use Rattle.tx_translate.specs.Meant.{fault_by}
+use Rattle.tx_translate.specs.OwnLines.{without_return}
 
 -- nothing more, and more once more
 pub grows_none : (told : List ℕ) → Grows told told

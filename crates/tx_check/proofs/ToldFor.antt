@@ -10,7 +10,7 @@ use Rattle.tx_check.specs.Told.{IsToldBy, IsToldOf}
 use Rattle.tx_check.specs.Wrong.{IsWrongBehind, IsWrongToo}
 use Rattle.tx_check.specs.declared.kinds.Kind.{Kind}
 use Rattle.tx_lines.specs.declared.faults.Fault.{Fault}
-use Rattle.tx_plain.specs.Meant.{meant_of}
+use Rattle.tx_translate.specs.Meant.{meant_of}
 
 -- what is told of a text for its own kind
 by_fewer : {IsRight : Type 0} {IsFault : Fault → Type 0} (IsWanted IsLess : ℕ → Type 0) (text told : List ℕ) → ((meant : ℕ) → IsLess meant → IsWanted meant)

@@ -6,7 +6,7 @@ use Rattle.tx_check.specs.Told.{told_text, IsToldBy, TellsFault, TellsFrom}
 use Rattle.tx_check.specs.declared.kinds.Kind.{Kind}
 use Rattle.tx_lines.specs.Schedule.{lines_of}
 use Rattle.tx_lines.specs.declared.faults.Fault.{Fault}
-use Rattle.tx_plain.specs.Meant.{fault_by, meant_of, own_line, IsOwnFault}
+use Rattle.tx_translate.specs.Meant.{fault_by, meant_of, own_line, IsOwnFault}
 
 -- no text is right and at fault, and none has two faults
 pub record AreOne (IsRight : Type 0) (IsFault : Fault → Type 0) : Type 0 where

@@ -7,7 +7,7 @@ use Rattle.tx_check.specs.declared.labels.LabelPlace.{LabelPlace}
 use Rattle.tx_check.specs.declared.labels.Labels.{Labels}
 use Rattle.tx_lines.specs.Programs.{label_front}
 use Rattle.tx_lines.specs.Schedule.{first_line}
-use Rattle.tx_plain.specs.MeantLines.{left_of, line_of}
+use Rattle.tx_translate.specs.MeantLines.{left_of, line_of}
 
 -- the number of a label, and its line
 abbrev pub label_at : LabelLine → ℕ × List ℕ

@@ -10,7 +10,7 @@ use Rattle.tx_check.specs.declared.near.NearName.{NearName}
 use Rattle.tx_check.specs.declared.near.NearName.TheVariants as nears
 use Rattle.tx_check.specs.declared.trouble.Names.{Names}
 use Rattle.tx_check.specs.declared.trouble.Names.TheVariants as names
-use Rattle.tx_plain.specs.MeantLines.{left_of, line_of}
+use Rattle.tx_translate.specs.MeantLines.{left_of, line_of}
 
 -- how many edits lead from one text to the other, of which an exchange of neighbours is one
 abbrev pub distance : List ℕ → List ℕ → ℕ

@@ -1,7 +1,7 @@
 -- The lines of a text by their numbers.
 use Rattle.std.specs.Prelude.{ℕ, zero, suc, ◌-◌, List}
 use Rattle.tx_lines.specs.Schedule.{first_line}
-pub use Rattle.tx_plain.specs.MeantLines.{behind, behind_by}
+pub use Rattle.tx_translate.specs.MeantLines.{behind, behind_by}
 
 -- what follows so many lines
 abbrev pub after_lines : ℕ → List ℕ → List ℕ

@@ -7,9 +7,9 @@ use Rattle.tx_check.specs.declared.own.TextFrom.{TextFrom}
 use Rattle.tx_check.specs.declared.places.Part.{Part}
 use Rattle.tx_check.specs.declared.places.Part.TheVariants as parts
 use Rattle.tx_check.specs.declared.places.TextLine.{TextLine}
-use Rattle.tx_plain.specs.Meant.{meant_of, own_line}
-use Rattle.tx_plain.specs.MeantLines.{left_of}
-use Rattle.tx_plain.specs.declared.meant_lines.MeantLines.{MeantLines}
+use Rattle.tx_translate.specs.Meant.{meant_of, own_line}
+use Rattle.tx_translate.specs.MeantLines.{left_of}
+use Rattle.tx_translate.specs.declared.meant_lines.MeantLines.{MeantLines}
 
 -- it is the text from one of its lines on
 pub record IsFrom (text : List ℕ) (from : TextFrom) : Type 0 where

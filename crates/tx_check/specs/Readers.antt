@@ -9,7 +9,7 @@ use Rattle.tx_check.specs.declared.kinds.Kind.TheVariants.{Schedule, Walk, Progr
 use Rattle.tx_check.specs.declared.readers.Reader.{Reader}
 use Rattle.tx_check.specs.declared.readers.Reader.TheVariants.{Any, Replay, Debug, Run, Picture, Json}
 use Rattle.tx_lines.specs.declared.faults.Fault.{Fault}
-use Rattle.tx_plain.specs.Meant.{meant_of, IsOwnFault}
+use Rattle.tx_translate.specs.Meant.{meant_of, IsOwnFault}
 
 -- the kind of text that a command reads, by the kind that a text is meant to be: JSON is made of no program
 abbrev pub kind_for : Reader → Kind → Kind

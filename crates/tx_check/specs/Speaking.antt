@@ -15,8 +15,8 @@ use Rattle.tx_check.specs.declared.trouble.What.{What}
 use Rattle.tx_check.specs.declared.trouble.What.TheVariants as whats
 use Rattle.tx_check.specs.declared.trouble.WordTrouble.{WordTrouble}
 use Rattle.tx_check.specs.declared.trouble.WordTrouble.TheVariants as words
-use Rattle.tx_plain.specs.OwnLines.{without_return}
-use Rattle.tx_plain.specs.Words.{words_in}
+use Rattle.tx_translate.specs.OwnLines.{without_return}
+use Rattle.tx_translate.specs.Words.{words_in}
 
 -- the sentences about lines: about the command that is to read the text, about sessions, about what stands in a wrong place, and all of them
 abbrev pub reader_sentence : LineTrouble → List ℕ

@@ -12,8 +12,8 @@ use Rattle.tx_check.specs.declared.trouble.Trouble.{Trouble}
 use Rattle.tx_lines.specs.Schedule.{lines_of}
 use Rattle.tx_lines.specs.declared.faults.Fault.{Fault}
 use Rattle.tx_lines.specs.declared.faults.Fault.TheVariants as faults
-use Rattle.tx_plain.specs.Meant.{meant_of, own_line, IsOwnFault}
-use Rattle.tx_plain.specs.OwnLines.{without_return}
+use Rattle.tx_translate.specs.Meant.{meant_of, own_line, IsOwnFault}
+use Rattle.tx_translate.specs.OwnLines.{without_return}
 
 -- what is told of one line: its number, a column, and a sentence
 pub record Told : Type 0 where

@@ -17,8 +17,8 @@ ghost use Rattle.tx_check.specs.declared.trouble.LineTrouble.TheVariants as trou
 ghost use Rattle.tx_check.specs.declared.trouble.What.TheVariants as whats;
 ghost use Rattle.tx_lines.specs.declared.faults.Fault.{Fault};
 ghost use Rattle.tx_lines.specs.declared.faults.Fault.TheVariants as faults;
-ghost use Rattle.tx_plain.specs.Meant.{fault_by, meant_of, own_line};
-ghost use Rattle.tx_plain.specs.MeantLines.{left_of, OwnsFrom};
+ghost use Rattle.tx_translate.specs.Meant.{fault_by, meant_of, own_line};
+ghost use Rattle.tx_translate.specs.MeantLines.{left_of, OwnsFrom};
 
 use crate::diagnose::{trouble_of, unknown};
 use crate::faults::first_fault;
@@ -32,7 +32,7 @@ use crate::trouble::Trouble;
 use std::alloc::Global;
 use tx_base::NoMemory;
 use tx_lines::Fault;
-use tx_plain::{MeantLines, Room};
+use tx_translate::{MeantLines, Room};
 
 /// What is told of a text of any version: nothing exactly where what it means is a text of its kind
 /// (`kind_of`), and so is read by the command of that kind. Else a line for each line at fault,

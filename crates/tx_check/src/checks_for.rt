@@ -7,7 +7,7 @@ ghost use Rattle.tx_check.specs.Readers as spec;
 ghost use Rattle.tx_check.specs.Reads as reads;
 ghost use Rattle.tx_check.specs.Reads.{IsAtFault};
 ghost use Rattle.tx_check.specs.Told.{TellsFrom};
-ghost use Rattle.tx_plain.specs.Meant.{meant_of, own_line};
+ghost use Rattle.tx_translate.specs.Meant.{meant_of, own_line};
 
 use crate::checks::{line_of, tell_from, tell_text};
 use crate::faults::first_fault;
@@ -22,7 +22,7 @@ use crate::trouble::{LineTrouble, Trouble};
 use std::alloc::{AllocError, Global};
 use tx_base::NoMemory;
 use tx_lines::{Fault, put};
-use tx_plain::{Meant, MeantLines};
+use tx_translate::{Meant, MeantLines};
 
 /// What is told of a text of any version for that command: nothing exactly where the command reads the
 /// text. Else first of the line at which it finds the text at fault, as `check_text` tells it, and of

@@ -8,7 +8,7 @@ ghost use Rattle.tx_check.specs.Wrong.{IsLinkedLine, IsTwice, IsWrong, NamesNowh
 ghost use Rattle.tx_check.specs.declared.places.Part.TheVariants as parts;
 ghost use Rattle.tx_check.specs.declared.trouble.LineTrouble.TheVariants as troubles;
 ghost use Rattle.tx_check.specs.declared.trouble.What.TheVariants as whats;
-ghost use Rattle.tx_plain.specs.MeantLines.{left_of};
+ghost use Rattle.tx_translate.specs.MeantLines.{left_of};
 
 pub mod alone;
 pub mod bytes;
@@ -33,7 +33,7 @@ use crate::labels::Labels;
 use crate::places::{Part, Place, TextLine, is_debug};
 use crate::trouble::{LineTrouble, Trouble};
 use tx_lines::{LINE_BYTES, read_command, read_line, read_step};
-use tx_plain::MeantLines;
+use tx_translate::MeantLines;
 
 /// What is wrong with the line of a text at that place. Nothing where it is right.
 pub fn trouble_of<'a>(

@@ -13,7 +13,7 @@ ghost use Rattle.tx_lines.specs.Programs.{line_text, IsLineOf};
 ghost use Rattle.tx_lines.specs.Schedule.{SpellsHeader};
 ghost use Rattle.tx_lines.specs.declared.faults.Fault.TheVariants as faults;
 ghost use Rattle.tx_lines.specs.declared.instructions.Line.{Line};
-ghost use Rattle.tx_plain.specs.MeantLines.{left_of};
+ghost use Rattle.tx_translate.specs.MeantLines.{left_of};
 ghost use Rattle.tx_lines.specs.declared.read.header.TextKind.TheVariants as texts;
 
 use crate::diagnose::is_right;
@@ -23,7 +23,7 @@ use crate::kinds::Kind;
 use crate::labels::Labels;
 use crate::places::{Part, Place, TextLine, kind_of_head};
 use tx_lines::{Fault, Header, LINE_BYTES, Line, Name, Version, read_line};
-use tx_plain::{MeantLines, Room};
+use tx_translate::{MeantLines, Room};
 
 /// The line behind a header.
 const FIRST_LINE: u64 = 2;

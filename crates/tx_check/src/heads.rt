@@ -1,11 +1,11 @@
 //! Reads the first line of what a text means.
 ghost use Rattle.std.specs.Prelude.{◌≡◌, ◌<◌, ◌++◌, ◌∷◌, [], MatchOption, MatchResult, length};
 ghost use Rattle.tx_lines.specs.Schedule.{FaultsAtHeader, SpellsHeader};
-ghost use Rattle.tx_plain.specs.MeantLines.{left_of};
+ghost use Rattle.tx_translate.specs.MeantLines.{left_of};
 
 use arrayvec::ArrayVec;
 use tx_lines::{Fault, Header, TextKind, first_header};
-use tx_plain::{MeantLines, Room};
+use tx_translate::{MeantLines, Room};
 
 /// The header in the first line of what a text means, and the lines behind it.
 pub fn header_of(kind: TextKind, text: MeantLines<'_>) -> Result<(Header, MeantLines<'_>), Fault>

@@ -1,10 +1,10 @@
 //! Which kind of text one is meant to be.
 ghost use Rattle.std.specs.Prelude.{◌≡◌, ◌≤◌, IsTrue, length};
 ghost use Rattle.tx_check.specs.Kinds as spec;
-ghost use Rattle.tx_plain.specs.MeantLines.{left_of};
+ghost use Rattle.tx_translate.specs.MeantLines.{left_of};
 
 use tx_lines::split_word;
-use tx_plain::{MeantLines, Room};
+use tx_translate::{MeantLines, Room};
 
 /// A kind of text, each with the command that reads it.
 #[derive(Clone, Copy, PartialEq, Eq)]

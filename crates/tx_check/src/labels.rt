@@ -4,11 +4,11 @@ ghost use Rattle.tx_check.specs.Labels.{label_at, with_label, AreKnown, IsFirstL
 ghost use Rattle.tx_check.specs.Numbered.{after_lines, line_at};
 ghost use Rattle.tx_lines.specs.Programs.{label_front};
 ghost use Rattle.tx_lines.specs.Schedule.{first_line};
-ghost use Rattle.tx_plain.specs.MeantLines.{left_of, line_of};
+ghost use Rattle.tx_translate.specs.MeantLines.{left_of, line_of};
 
 use crate::places::is_label;
 use arrayvec::ArrayVec;
-use tx_plain::{MeantLines, OwnLine, Room};
+use tx_translate::{MeantLines, OwnLine, Room};
 
 /// How many bytes a label's line has before the name.
 pub const LABEL_FRONT: usize = 6;

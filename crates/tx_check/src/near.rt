@@ -4,8 +4,8 @@ ghost use Rattle.tx_check.specs.Near as spec;
 ghost use Rattle.tx_check.specs.Near.{call_names, name_of, near, with_name, FindsLabel, FindsName, FindsNear, IsFoundIn, IsKnown, IsNear};
 ghost use Rattle.tx_check.specs.declared.trouble.Names.TheVariants as lists;
 ghost use Rattle.tx_lines.specs.Programs.{BeginsLabel};
-ghost use Rattle.tx_plain.specs.MeantLines.{left_of, line_of};
-ghost use Rattle.tx_plain.specs.declared.meant_lines.MeantLines.{MeantLines};
+ghost use Rattle.tx_translate.specs.MeantLines.{left_of, line_of};
+ghost use Rattle.tx_translate.specs.declared.meant_lines.MeantLines.{MeantLines};
 
 use crate::forms::{CALLS, COMMANDS, Form, FormRow, PIECES, SESSION};
 use crate::habits::{call_meant, command_meant, session_meant};
@@ -14,7 +14,7 @@ use crate::trouble::Names;
 use std::alloc::Global;
 use strsim::osa_distance;
 use tx_base::NoMemory;
-use tx_plain::{MeantLines, OwnLine, Room};
+use tx_translate::{MeantLines, OwnLine, Room};
 
 /// How many edits lead to a name at most. One of `n` bytes is near where there are at most `n / 3`.
 const EDITS: usize = 4;

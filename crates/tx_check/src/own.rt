@@ -11,7 +11,7 @@ use crate::places::{Part, TextLine, behind};
 use crate::third::third_trouble;
 use crate::trouble::Trouble;
 use crate::words::{Word, count_words, word_at};
-use tx_plain::split_word;
+use tx_translate::split_word;
 
 /// A text from one of its lines on.
 #[derive(Clone, Copy)]

@@ -5,13 +5,13 @@ ghost use Rattle.tx_check.specs.Speaking as spec;
 ghost use Rattle.tx_check.specs.Told.{IsColumn, IsPlaced};
 ghost use Rattle.tx_check.specs.declared.trouble.LineTrouble.TheVariants as troubles;
 ghost use Rattle.tx_check.specs.declared.trouble.What.TheVariants as whats;
-ghost use Rattle.tx_plain.specs.OwnLines.{without_return};
+ghost use Rattle.tx_translate.specs.OwnLines.{without_return};
 
 use crate::diagnose::shapes::BYTE_ORDER_MARK;
 use crate::own::own_word;
 use crate::trouble::{LineTrouble, Names, Trouble, What, WordTrouble};
 use tx_lines::LINE_BYTES;
-use tx_plain::{MeantLines, split_word};
+use tx_translate::{MeantLines, split_word};
 
 /// What is told of a line where that trouble was found: the trouble, where what it says is so in
 /// its column. Of a line that is too long nothing else is told.

@@ -10,13 +10,13 @@ ghost use Rattle.tx_check.specs.declared.trouble.LineTrouble.TheVariants as trou
 ghost use Rattle.tx_lines.specs.Programs.{BeginsLabel};
 ghost use Rattle.tx_lines.specs.Schedule.{after_line, first_line};
 ghost use Rattle.tx_lines.specs.Walks.{debug_line};
-ghost use Rattle.tx_plain.specs.MeantLines.{left_of};
+ghost use Rattle.tx_translate.specs.MeantLines.{left_of};
 
 use crate::heads::header_of;
 use crate::kinds::Kind;
 use crate::trouble::LineTrouble;
 use tx_lines::{INSTRUCTIONS, LABELS, LINES, TextKind, Version, take_line};
-use tx_plain::MeantLines;
+use tx_translate::MeantLines;
 
 /// A line of a text.
 #[derive(Clone, Copy)]

@@ -2,11 +2,11 @@
 ghost use Rattle.std.specs.Prelude.{◌≡◌, IfSome};
 ghost use Rattle.tx_check.specs.Kinds.{kind_of};
 ghost use Rattle.tx_check.specs.Reads.{IsRead};
-ghost use Rattle.tx_plain.specs.Meant.{meant_of};
+ghost use Rattle.tx_translate.specs.Meant.{meant_of};
 
 use crate::kinds::Kind;
 use std::alloc::Global;
-use tx_plain::{Text, read_text};
+use tx_translate::{Text, read_text};
 
 /// The kind of a text that the command of its kind reads. Nothing where the text is at fault, and where
 /// a growth of memory was refused by which that is found.

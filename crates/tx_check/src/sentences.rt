@@ -12,7 +12,7 @@ use std::alloc::{AllocError, Global};
 use std::fmt::Write;
 use tx_base::NoMemory;
 use tx_lines::{put, put_byte, put_count};
-use tx_plain::{OwnLine, Room};
+use tx_translate::{OwnLine, Room};
 
 /// How many bytes of a word are told.
 const WORD_BYTES: usize = 48;

@@ -23,7 +23,7 @@ use std::alloc::{AllocError, Global};
 use std::fmt::Write;
 use tx_base::NoMemory;
 use tx_lines::{LINE_BYTES, Version};
-use tx_plain::{Room, plain_line};
+use tx_translate::{Room, plain_line};
 
 /// What is wrong with a line of a session that is neither a step nor asks for anything: `column C: `
 /// and a sentence, without a line's end. At that column is the word of which the sentence speaks.
@@ -115,7 +115,7 @@ fn behind_word(is_third: bool, line: &[u8]) -> Option<(&[u8], &[u8])>
     ensures { IfSome result (λ r. length r.1.now ≤ length line.now) }
 {
     if is_third {
-        return tx_plain::split_word(line);
+        return tx_translate::split_word(line);
     }
     let word = front_word(line);
     if word.len() == line.len() {
@@ -132,7 +132,7 @@ fn asked_step(is_third: bool, line: &[u8]) -> Option<&[u8]>
     if word != b"try".as_slice() && word != b"why".as_slice() {
         return None;
     }
-    if step.is_empty() || (is_third && tx_plain::split_word(step).is_none()) {
+    if step.is_empty() || (is_third && tx_translate::split_word(step).is_none()) {
         return None;
     }
     Some(step)

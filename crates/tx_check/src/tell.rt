@@ -4,7 +4,7 @@ ghost use Rattle.std.specs.Fmt.{decimal};
 ghost use Rattle.tx_check.specs.Speaking.{kind_of_what, line_sentence, FaultKind, IsFitting, IsOfKind, SpeaksAt};
 ghost use Rattle.tx_check.specs.Told.{IsColumn, IsInLine, Tells, TellsOfKind};
 ghost use Rattle.tx_check.specs.declared.trouble.LineTrouble.TheVariants as troubles;
-ghost use Rattle.tx_plain.specs.OwnLines.{without_return};
+ghost use Rattle.tx_translate.specs.OwnLines.{without_return};
 
 use crate::placed::placed;
 use crate::places::TextLine;

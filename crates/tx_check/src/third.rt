@@ -10,7 +10,7 @@ use crate::third::sets::set_trouble;
 use crate::third::strings::string_trouble;
 use crate::trouble::{Trouble, What, WordTrouble};
 use crate::words::word_at;
-use tx_plain::{Role, role_of};
+use tx_translate::{Role, role_of};
 
 /// What is wrong with a line, told at a column of its own line: in the line that is meant it was found
 /// at the word of that place.

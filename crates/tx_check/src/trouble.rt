@@ -8,7 +8,7 @@ ghost use Rattle.tx_check.specs.declared.trouble.What.TheVariants as whats;
 use crate::forms::Form;
 use crate::habits::left_out;
 use crate::words::Word;
-use tx_plain::MeantLines;
+use tx_translate::MeantLines;
 
 /// What is wrong with a line. Columns count bytes from 1; the column after the last byte stands for
 /// the end of the line.

@@ -3,14 +3,14 @@ use Rattle.std.proofs.Common.{◌≡◌, List, sym, subst, Result, Ok, Err, OnOk
 use Rattle.tx_change.specs.declared.change.Change.{Change}
 use Rattle.tx_core.specs.Machines.{IsMachine}
 use Rattle.tx_core.specs.Undo.{LeadsBack, LeadsOn}
-use Rattle.tx_live.specs.Content.{IsShaped}
-use Rattle.tx_live.specs.CrossingFacts.{back_by, back_so, forward_by, forward_so, is_back, is_forward}
-use Rattle.tx_live.specs.Crossings.{HoldsBack, HoldsForward}
-use Rattle.tx_live.specs.Inverses.{GoesWith, Undoes}
-use Rattle.tx_live.specs.Redone.{EndsWhole, GoesAgain, IsTakenBack, Redoes, TakesBack}
-use Rattle.tx_live.specs.declared.content.Content.{Content}
-use Rattle.tx_live.specs.declared.crossing.Crossing.{Crossing}
-use Rattle.tx_live.specs.declared.inverse.Inverse.{Inverse}
+use Rattle.tx_content.specs.Content.{IsShaped}
+use Rattle.tx_content.specs.CrossingFacts.{back_by, back_so, forward_by, forward_so, is_back, is_forward}
+use Rattle.tx_content.specs.Crossings.{HoldsBack, HoldsForward}
+use Rattle.tx_content.specs.Inverses.{GoesWith, Undoes}
+use Rattle.tx_content.specs.Redone.{EndsWhole, GoesAgain, IsTakenBack, Redoes, TakesBack}
+use Rattle.tx_content.specs.declared.content.Content.{Content}
+use Rattle.tx_content.specs.declared.crossing.Crossing.{Crossing}
+use Rattle.tx_content.specs.declared.inverse.Inverse.{Inverse}
 
 -- its numbers are ones that there are
 pub goes_with : (k : Content) (crossing : Crossing) → HoldsBack crossing (LeadsBack k) → HoldsBack crossing (GoesWith k)

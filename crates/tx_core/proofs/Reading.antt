@@ -10,8 +10,8 @@ use Rattle.tx_core.specs.Laws.{MachineLaws}
 use Rattle.tx_step.specs.Contents.{IsContent}
 use Rattle.tx_core.specs.OwnerFacts.{reserved_read}
 use Rattle.tx_laws.specs.TwoStates.{is_owner, states_view}
-use Rattle.tx_live.specs.Content.{content_of, held_of, now_of, view_of}
-use Rattle.tx_live.specs.declared.content.Content.{Content}
+use Rattle.tx_content.specs.Content.{content_of, held_of, now_of, view_of}
+use Rattle.tx_content.specs.declared.content.Content.{Content}
 use Rattle.tx_model.specs.Events.{process_of}
 use Rattle.tx_model.specs.Footprints.{footprint}
 use Rattle.tx_model.specs.Membership.{Table}

@@ -1,7 +1,7 @@
 -- What holds for every machine.
 use Rattle.std.specs.Prelude.{◌≡◌, ◌⊎◌, ℕ, length}
 use Rattle.tx_base.specs.declared.limits.TheConstants.{PROCESSES, WIDE_PROCESSES}
-use Rattle.tx_live.specs.declared.content.Content.{Content}
+use Rattle.tx_content.specs.declared.content.Content.{Content}
 use Rattle.tx_step.specs.Contents.{IsContent}
 
 -- how many process numbers a machine may have: 64, or 256 if it is wide

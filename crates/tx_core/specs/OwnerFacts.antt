@@ -1,8 +1,8 @@
 -- Facts of who has reserved what, with their proofs.
 use Rattle.std.proofs.Common.{◌≡◌, ℕ, Option, ap, refl, sym, ◌∙◌}
 use Rattle.tx_laws.specs.TwoStates.{is_owner, states_view}
-use Rattle.tx_live.specs.Content.{owner_at, view_of}
-use Rattle.tx_live.specs.declared.content.Content.{Content}
+use Rattle.tx_content.specs.Content.{owner_at, view_of}
+use Rattle.tx_content.specs.declared.content.Content.{Content}
 use Rattle.tx_reserve.specs.Objects.{object_of}
 use Rattle.tx_reserve.specs.Reservations.{owner_of}
 use Rattle.tx_reserve.specs.declared.objects.Object.{Object}

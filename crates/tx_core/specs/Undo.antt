@@ -2,11 +2,11 @@
 use Rattle.std.specs.Prelude.{List}
 use Rattle.tx_change.specs.declared.change.Change.{Change}
 use Rattle.tx_core.specs.Machines.{IsMachine}
-use Rattle.tx_live.specs.Inverses.{GoesWith, Undoes}
-use Rattle.tx_live.specs.Redone.{IsTakenBack}
-use Rattle.tx_live.specs.declared.content.Content.{Content}
-use Rattle.tx_live.specs.declared.inverse.Inverse.{Inverse}
-use Rattle.tx_live.specs.declared.undone.Undone.{Undone}
+use Rattle.tx_content.specs.Inverses.{GoesWith, Undoes}
+use Rattle.tx_content.specs.Redone.{IsTakenBack}
+use Rattle.tx_content.specs.declared.content.Content.{Content}
+use Rattle.tx_content.specs.declared.inverse.Inverse.{Inverse}
+use Rattle.tx_content.specs.declared.undone.Undone.{Undone}
 
 -- the content is as the step with this inverse left it: the inverse leads back to what a machine may keep
 pub record LeadsBack (k : Content) (inverse : Inverse) : Type 0 where

@@ -4,7 +4,7 @@ ghost use Rattle.tx_base.specs.declared.limits.TheConstants.{DESCRIPTIONS, PIPES
 ghost use Rattle.tx_core.specs.Free.{desc_number, desc_numbers, free_as, pipe_number};
 ghost use Rattle.tx_core.specs.Owners.{other_owner};
 ghost use Rattle.tx_step.specs.Contents.{IsContent};
-ghost use Rattle.tx_live.specs.Content.{view_of};
+ghost use Rattle.tx_content.specs.Content.{view_of};
 ghost use Rattle.tx_model.specs.FreeNumbers.{free_numbers, is_free_description, is_free_pipe, is_free_process, is_other_than, is_reserved_from, least_two};
 ghost use Rattle.tx_model.specs.Membership.{is_member_of};
 ghost use Rattle.tx_model.specs.View.{least};
@@ -14,7 +14,7 @@ ghost use Rattle.tx_reserve.specs.Reservations.{number_of};
 use crate::laws::laws;
 use crate::machine::Machine;
 use tx_base::{DESCRIPTIONS, DescNo, PIPES, Pid, PipeNo};
-use tx_live::Content;
+use tx_content::Content;
 use tx_reserve::Object;
 
 /// The least numbers that a process may choose for what it makes: each is unused, and no

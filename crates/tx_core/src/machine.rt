@@ -7,11 +7,11 @@ ghost use Rattle.tx_change.specs.Stacks.{below_top};
 ghost use Rattle.tx_change.specs.declared.change.Change.{Change};
 ghost use Rattle.tx_core.specs.Runs.{Continues, kernel_abort_on};
 ghost use Rattle.tx_core.specs.Undo.{LeadsBack, LeadsOn};
-ghost use Rattle.tx_live.specs.Content.{view_of};
-ghost use Rattle.tx_live.specs.Crossings.{moved_over, HoldsBack, HoldsForward};
-ghost use Rattle.tx_live.specs.Inverses.{Undoes};
-ghost use Rattle.tx_live.specs.Redone.{EndsWhole, IsTakenBack};
-ghost use Rattle.tx_live.specs.declared.content.Content.{Content as TheContent};
+ghost use Rattle.tx_content.specs.Content.{view_of};
+ghost use Rattle.tx_content.specs.Crossings.{moved_over, HoldsBack, HoldsForward};
+ghost use Rattle.tx_content.specs.Inverses.{Undoes};
+ghost use Rattle.tx_content.specs.Redone.{EndsWhole, IsTakenBack};
+ghost use Rattle.tx_content.specs.declared.content.Content.{Content as TheContent};
 ghost use Rattle.tx_model.specs.Answer.{answer, IsAccepted};
 ghost use Rattle.tx_model.specs.Events.{process_of};
 ghost use Rattle.tx_model.specs.Membership.{is_live};
@@ -25,7 +25,7 @@ use std::marker::Model;
 use thiserror::Error;
 use tx_base::{NoMemory, PROCESSES, Pid, Refusal, Reply, Step, WIDE_PROCESSES};
 use tx_change::Change;
-use tx_live::{Content, Crossing, Inverse};
+use tx_content::{Content, Crossing, Inverse};
 use tx_step::{Answered, put_reply, take_call, take_delivery, take_kernel_abort};
 
 /// There is no live transaction of that starter.
@@ -41,7 +41,7 @@ pub struct Machine {
 
 impl Model for Machine {
     ghost use Rattle.tx_core.specs.Machines.{IsMachine};
-    ghost use Rattle.tx_live.specs.declared.content.Content.{Content as TheContent};
+    ghost use Rattle.tx_content.specs.declared.content.Content.{Content as TheContent};
 
     ghost Value = { TheContent };
 

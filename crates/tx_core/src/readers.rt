@@ -6,7 +6,7 @@ ghost use Rattle.tx_core.specs.Machines.{IsWidth};
 ghost use Rattle.tx_core.specs.Owners.{other_owner};
 ghost use Rattle.tx_kernel.specs.Actors.{IsWhole};
 ghost use Rattle.tx_kernel.specs.Plans.{sending_of};
-ghost use Rattle.tx_live.specs.Content.{held_of, view_of};
+ghost use Rattle.tx_content.specs.Content.{held_of, view_of};
 ghost use Rattle.tx_model.specs.Events.{process_of};
 ghost use Rattle.tx_model.specs.Footprints.{footprint};
 ghost use Rattle.tx_model.specs.Membership.{is_live};

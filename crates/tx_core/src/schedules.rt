@@ -3,7 +3,7 @@ ghost use Rattle.std.specs.Prelude.{◌≡◌, ◌<◌, ◌≤◌, ◌++◌, ◌
 ghost use Rattle.tx_base.specs.declared.steps.Accepted.{Accepted as TheAccepted};
 ghost use Rattle.tx_base.specs.declared.steps.Step.{Step as TheStep};
 ghost use Rattle.tx_core.specs.Runs.{RunsFrom, steps_made};
-ghost use Rattle.tx_live.specs.Content.{view_of};
+ghost use Rattle.tx_content.specs.Content.{view_of};
 ghost use Rattle.tx_model.specs.Answer.{Lawful, Agreement};
 ghost use Rattle.tx_model.specs.Schedules.{history_of};
 ghost use Rattle.tx_model.specs.State.{State, boot_state};

@@ -2,9 +2,9 @@
 use Rattle.std.proofs.Common.{◌≡◌, ◌≢◌, ℕ, Bool, true, false, not, ◌⊎◌, List, ◌∷◌, nat_eq, refl, inl, inr}
 use Rattle.std.proofs.lemmas.Bool.Decides.{eqb_tells}
 use Rattle.tx_expect.specs.Comments.{comment_from}
-use Rattle.tx_plain.specs.Words.{is_blank}
-use Rattle.tx_plain.specs.declared.reading.Reading.{Reading}
-use Rattle.tx_plain.specs.declared.reading.Reading.TheVariants.{Between, InWord, InString, AfterBackslash}
+use Rattle.tx_translate.specs.Words.{is_blank}
+use Rattle.tx_translate.specs.declared.reading.Reading.{Reading}
+use Rattle.tx_translate.specs.declared.reading.Reading.TheVariants.{Between, InWord, InString, AfterBackslash}
 
 -- where reading is outside of strings
 abbrev pub outside : Bool → Reading

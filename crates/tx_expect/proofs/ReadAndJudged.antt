@@ -14,8 +14,8 @@ use Rattle.tx_lines.specs.declared.faults.Fault.{Fault}
 use Rattle.tx_lines.specs.declared.faults.Fault.TheVariants.{NotALine, NoLabel, TooLong, Reader, Writer, NoMemory}
 use Rattle.tx_lines.specs.declared.read.header.Header.{Header}
 use Rattle.tx_lines.specs.declared.read.schedule.Schedule.{Schedule}
-use Rattle.tx_plain.specs.Meant.{meant_of}
-use Rattle.tx_plain.specs.MeantSchedules.{MeansSchedule}
+use Rattle.tx_translate.specs.Meant.{meant_of}
+use Rattle.tx_translate.specs.MeantSchedules.{MeansSchedule}
 use Rattle.tx_script.specs.Answered.{Answers, Spells, WritesFront}
 
 -- the bytes that are known to be left

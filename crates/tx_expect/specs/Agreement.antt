@@ -4,7 +4,7 @@ use Rattle.std.specs.Str.{bytes_eq}
 use Rattle.tx_base.specs.declared.steps.Reply.{Reply}
 use Rattle.tx_base.specs.declared.steps.Reply.TheVariants.{Done}
 use Rattle.tx_expect.specs.Comments.{told_in}
-use Rattle.tx_text.specs.Replies.{error_name, named_reply_text, reply_text}
+use Rattle.tx_state_text.specs.Replies.{error_name, named_reply_text, reply_text}
 
 -- the name of the error that a reply is
 abbrev pub error_in : Reply → Option (List ℕ)

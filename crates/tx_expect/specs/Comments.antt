@@ -4,10 +4,10 @@ use Rattle.std.specs.Char.{is_ascii_whitespace}
 use Rattle.std.specs.List.{prefix_len, suffix_len}
 use Rattle.std.specs.Str.{bytes_eq}
 use Rattle.tx_lines.specs.Words.{parts_at}
-use Rattle.tx_plain.specs.Names.{naming_of}
-use Rattle.tx_plain.specs.Words.{is_blank, reading_after}
-use Rattle.tx_plain.specs.declared.reading.Reading.{Reading}
-use Rattle.tx_plain.specs.declared.reading.Reading.TheVariants.{Between, InWord, InString, AfterBackslash, InComment}
+use Rattle.tx_translate.specs.Names.{naming_of}
+use Rattle.tx_translate.specs.Words.{is_blank, reading_after}
+use Rattle.tx_translate.specs.declared.reading.Reading.{Reading}
+use Rattle.tx_translate.specs.declared.reading.Reading.TheVariants.{Between, InWord, InString, AfterBackslash, InComment}
 
 -- whether words are those of the header or of a step: there are some, and they give no name to a process
 abbrev pub is_told : List (List ℕ) → Bool

@@ -11,8 +11,8 @@ use Rattle.tx_expect.specs.declared.tallies.Tally.{Tally}
 use Rattle.tx_expect.specs.declared.tallies.Verdict.{Verdict}
 use Rattle.tx_expect.specs.declared.tallies.Verdict.TheVariants.{Met, Unmet, Silent}
 use Rattle.tx_lines.specs.Lines.{step_text}
-use Rattle.tx_plain.specs.Words.{words_in}
-use Rattle.tx_text.specs.Replies.{named_reply_text}
+use Rattle.tx_translate.specs.Words.{words_in}
+use Rattle.tx_state_text.specs.Replies.{named_reply_text}
 
 -- a tally with one verdict more
 abbrev pub tally_with : Tally → Verdict → Tally

@@ -13,11 +13,11 @@ use Rattle.tx_lines.specs.declared.faults.Fault.{Fault}
 use Rattle.tx_lines.specs.declared.read.header.Header.{Header}
 use Rattle.tx_lines.specs.declared.read.schedule.Schedule.{Schedule}
 use Rattle.tx_model.specs.Schedules.{answers_of}
-use Rattle.tx_plain.specs.Meant.{IsOwnFault}
-use Rattle.tx_plain.specs.MeantSchedules.{MeansSchedule}
-use Rattle.tx_plain.specs.OwnLines.{own_lines}
+use Rattle.tx_translate.specs.Meant.{IsOwnFault}
+use Rattle.tx_translate.specs.MeantSchedules.{MeansSchedule}
+use Rattle.tx_translate.specs.OwnLines.{own_lines}
 use Rattle.tx_script.specs.Report.{last_view, start_state}
-use Rattle.tx_text.specs.State.{state_text}
+use Rattle.tx_state_text.specs.State.{state_text}
 
 -- whether no step is to come
 abbrev pub is_last : List Step → Bool

@@ -5,7 +5,7 @@ ghost use Rattle.tx_expect.specs.Agreement as spec;
 use crate::comments::told_in;
 use std::alloc::AllocError;
 use tx_base::Reply;
-use tx_text::{error_name, put_named_reply, put_reply};
+use tx_state_text::{error_name, put_named_reply, put_reply};
 
 /// Whether a reply is the expected one: as a report spells it, or an error with its name in place of its
 /// number or after it. `spelled` is room for the spelling of a reply, whatever it has.

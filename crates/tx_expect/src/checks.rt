@@ -12,7 +12,7 @@ use std::fmt::Write;
 use tx_base::NoMemory;
 use tx_check::{Kind, Reader, check_text_for, kind_of, put_shown};
 use tx_lines::{Fault, Sink, Source, put, read_whole, split_at, write_whole};
-use tx_plain::{MeantLines, naming_in, split_line};
+use tx_translate::{MeantLines, naming_in, split_line};
 
 /// What is said after a reply that is none.
 const REPLIES: &str = "; a reply is as in a report: ok 0, ok -9, ok EBADF, ended, committed, \

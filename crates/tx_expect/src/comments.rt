@@ -1,12 +1,12 @@
 //! The comment of a line, and what it says that the line's step is to be answered.
 ghost use Rattle.std.specs.Prelude.{◌≡◌, ◌≤◌, length, option_map};
 ghost use Rattle.tx_expect.specs.Comments.{after_equals, before_mark, begins_state, comment_from, comment_in, expected_in, is_told, says, told_in};
-ghost use Rattle.tx_plain.specs.Words as words;
-ghost use Rattle.tx_plain.specs.Words.{words_in};
-ghost use Rattle.tx_plain.specs.declared.reading.Reading.TheVariants.{InString, InWord};
+ghost use Rattle.tx_translate.specs.Words as words;
+ghost use Rattle.tx_translate.specs.Words.{words_in};
+ghost use Rattle.tx_translate.specs.declared.reading.Reading.TheVariants.{InString, InWord};
 
 use tx_lines::split_at;
-use tx_plain::{naming_in, split_word};
+use tx_translate::{naming_in, split_word};
 
 /// Whether a line is the header or a step: it has a word, and gives no name to a process.
 #[inline(always)] // most lines are seen to be one by their first byte

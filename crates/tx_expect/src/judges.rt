@@ -4,7 +4,7 @@ ghost use Rattle.tx_expect.specs.Lines.{after_line, judged, judged_stray, progre
 ghost use Rattle.tx_expect.specs.Outcomes.{after_lines, after_stop, first_progress, is_at_state, judged_state, state_lines, IsOutcome};
 ghost use Rattle.tx_expect.specs.States.{state_difference};
 ghost use Rattle.tx_expect.specs.Comments.{expected_in};
-ghost use Rattle.tx_plain.specs.OwnLines.{own_lines};
+ghost use Rattle.tx_translate.specs.OwnLines.{own_lines};
 
 use crate::agreement::agrees;
 use crate::comments::{begins_state, expected_in, is_told};
@@ -14,7 +14,7 @@ use crate::states::put_state_difference;
 use crate::tallies::{Tally, Verdict};
 use std::alloc::{AllocError, Global};
 use tx_base::{Reply, Step};
-use tx_plain::split_line;
+use tx_translate::split_line;
 
 /// How far the lines of a text are judged, and what that came to.
 #[derive(Drop)]

@@ -2,7 +2,7 @@
 
 use std::alloc::{AllocError, Global};
 use tx_base::Pid;
-use tx_plain::{naming_in, process_in, split_word};
+use tx_translate::{naming_in, process_in, split_word};
 
 /// The processes that have a name, by the lines of a text so far.
 #[derive(Drop)]

@@ -1,7 +1,7 @@
 //! Reads a schedule, makes its steps, and judges the replies by what the text expects.
 ghost use Rattle.tx_expect.specs.Outcomes.{whole_progress, ExpectsText, IsOutcome};
 ghost use Rattle.std.specs.Prelude.{◌≡◌, ◌≤◌, IfOk, [], length};
-ghost use Rattle.tx_live.specs.Content.{view_of};
+ghost use Rattle.tx_content.specs.Content.{view_of};
 ghost use Rattle.tx_lines.specs.declared.read.schedule.Schedule.{Schedule as TheSchedule};
 ghost use Rattle.tx_model.specs.Schedules.{answers_of};
 ghost use Rattle.tx_script.specs.Report.{last_view, start_state};
@@ -10,8 +10,8 @@ use crate::judges::Judge;
 use std::alloc::{AllocError, Global};
 use tx_journal::put_state;
 use tx_lines::{Fault, Schedule};
-use tx_plain::read_schedule;
 use tx_script::{Answered, make_all};
+use tx_translate::read_schedule;
 
 /// What the expectations of a text come to.
 #[derive(Drop)]

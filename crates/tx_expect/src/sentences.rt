@@ -12,7 +12,7 @@ use std::fmt::Write;
 use tx_base::{Reply, Step};
 use tx_check::put_shown;
 use tx_lines::{put, put_step};
-use tx_text::put_named_reply;
+use tx_state_text::put_named_reply;
 
 /// Reports that the reply to the step of a line is not the expected one.
 pub fn put_difference(

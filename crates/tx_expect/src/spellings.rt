@@ -2,7 +2,7 @@
 use arrayvec::ArrayVec;
 use tx_base::UNDELIVERED;
 use tx_lines::{number, read_byte, read_bytes, read_pid, split_at, split_word};
-use tx_text::error_name;
+use tx_state_text::error_name;
 
 /// Above which number no error is.
 const ERRORS_ABOVE: i64 = -100;

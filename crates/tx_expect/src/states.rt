@@ -2,13 +2,13 @@
 ghost use Rattle.std.specs.Prelude.{◌≡◌, ◌+◌, ◌-◌, ◌<◌, ◌^◌, ◌++◌, IfOk, length, string_bytes};
 ghost use Rattle.tx_expect.specs.States.{after_last, state_difference, state_told, state_verdict};
 ghost use Rattle.tx_expect.specs.Outcomes.{state_lines};
-ghost use Rattle.tx_plain.specs.OwnLines.{own_lines};
+ghost use Rattle.tx_translate.specs.OwnLines.{own_lines};
 
 use crate::comments::{expected_in, says};
 use crate::sentences::{put_more, put_no_line, put_other_line};
 use crate::tallies::Verdict;
 use std::alloc::AllocError;
-use tx_plain::split_line;
+use tx_translate::split_line;
 
 /// Compares the lines of a state's text, after its first, with those that the lines of a text expect, after
 /// the line of that number. Reports the first difference.

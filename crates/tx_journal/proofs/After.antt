@@ -11,8 +11,8 @@ use Rattle.tx_journal.specs.Lives.{has_place, lives, one_if, starter_by, starter
 use Rattle.tx_laws.specs.Fits.{Fits}
 use Rattle.tx_laws.specs.Sound.{IsSound}
 use Rattle.tx_laws.specs.TwoStates.{states_view}
-use Rattle.tx_live.specs.Content.{view_of}
-use Rattle.tx_live.specs.declared.content.Content.{Content}
+use Rattle.tx_content.specs.Content.{view_of}
+use Rattle.tx_content.specs.declared.content.Content.{Content}
 use Rattle.tx_model.specs.Events.{process_of}
 use Rattle.tx_model.specs.Membership.{Aborting, Progress, Forks, Begins, Role, Within, Table, is_live, is_of, marks_after, role, table_after, mark_unless_of}
 use Rattle.tx_model.specs.Words.{kind_role}

@@ -13,11 +13,11 @@ use Rattle.tx_journal.specs.Sessions.{later_of, made_of, position_of, start_of, 
 use Rattle.tx_journal.specs.Walks.{WalksOn}
 use Rattle.tx_journal.specs.declared.entry.Entry.{Entry}
 use Rattle.tx_journal.specs.declared.journal.Journal.{Journal}
-use Rattle.tx_live.specs.Content.{view_of}
-use Rattle.tx_live.specs.Redone.{IsTakenBack}
-use Rattle.tx_live.specs.declared.content.Content.{Content}
-use Rattle.tx_live.specs.declared.inverse.Inverse.{Inverse}
-use Rattle.tx_live.specs.declared.undone.Undone.{Undone}
+use Rattle.tx_content.specs.Content.{view_of}
+use Rattle.tx_content.specs.Redone.{IsTakenBack}
+use Rattle.tx_content.specs.declared.content.Content.{Content}
+use Rattle.tx_content.specs.declared.inverse.Inverse.{Inverse}
+use Rattle.tx_content.specs.declared.undone.Undone.{Undone}
 use Rattle.tx_model.specs.State.{State}
 use Rattle.tx_model.specs.View.{view}
 

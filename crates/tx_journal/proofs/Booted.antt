@@ -6,9 +6,9 @@ use Rattle.tx_journal.specs.Lives.{lives, lives_to}
 use Rattle.tx_journal.specs.Sessions.{HasRoom, IsJournal, session_state}
 use Rattle.tx_journal.specs.Walks.{WalksBack}
 use Rattle.tx_journal.specs.declared.journal.Journal.{Journal}
-use Rattle.tx_live.specs.Content.{view_of}
-use Rattle.tx_live.specs.declared.content.Content.{Content}
-use Rattle.tx_live.specs.declared.inverse.Inverse.{Inverse}
+use Rattle.tx_content.specs.Content.{view_of}
+use Rattle.tx_content.specs.declared.content.Content.{Content}
+use Rattle.tx_content.specs.declared.inverse.Inverse.{Inverse}
 use Rattle.tx_journal.specs.declared.entry.Entry.{Entry}
 use Rattle.tx_model.specs.Answer.{Lawful}
 use Rattle.tx_model.specs.History.{table_of}

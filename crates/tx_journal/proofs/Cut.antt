@@ -9,7 +9,7 @@ use Rattle.tx_journal.proofs.Walked.{history_length, history_parts, lawful_to}
 use Rattle.tx_journal.specs.Entries.{history_of}
 use Rattle.tx_journal.specs.Lives.{lives, lives_to, one_if}
 use Rattle.tx_journal.specs.Sessions.{HasRoom, IsJournal, SessionState, made_of, position_of, start_of}
-use Rattle.tx_live.specs.Content.{view_of}
+use Rattle.tx_content.specs.Content.{view_of}
 use Rattle.tx_model.specs.History.{table_of}
 use Rattle.tx_model.specs.Membership.{Continues, Parks, Forks, Begins, Role, Outside, Within, Commits, Aborts, Table, is_live, is_of, parked_mark, table_after, mark_unless_of}
 use Rattle.tx_model.specs.State.{State, put_at}

@@ -7,11 +7,11 @@ use Rattle.tx_journal.specs.Entries.{accepted_of, history_of}
 use Rattle.tx_journal.specs.Sessions.{SessionState, IsAtEnd, IsJournal, made_of, position_of, start_of}
 use Rattle.tx_journal.specs.Walks.{WalksBack}
 use Rattle.tx_journal.specs.declared.entry.Entry.{Entry}
-use Rattle.tx_live.specs.Content.{view_of}
-use Rattle.tx_live.specs.Inverses.{Undoes}
-use Rattle.tx_live.specs.Redone.{EndsWhole}
-use Rattle.tx_live.specs.declared.content.Content.{Content}
-use Rattle.tx_live.specs.declared.inverse.Inverse.{Inverse}
+use Rattle.tx_content.specs.Content.{view_of}
+use Rattle.tx_content.specs.Inverses.{Undoes}
+use Rattle.tx_content.specs.Redone.{EndsWhole}
+use Rattle.tx_content.specs.declared.content.Content.{Content}
+use Rattle.tx_content.specs.declared.inverse.Inverse.{Inverse}
 use Rattle.tx_model.specs.Answer.{Lawful}
 use Rattle.tx_model.specs.State.{State}
 use Rattle.tx_model.specs.View.{view}

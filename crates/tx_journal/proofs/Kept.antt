@@ -11,8 +11,8 @@ use Rattle.tx_journal.specs.Sessions.{HasRoom, IsAtEnd, IsJournal, SessionState,
 use Rattle.tx_journal.specs.declared.entry.Entry.{Entry}
 use Rattle.tx_journal.specs.declared.journal.Journal.{Journal}
 use Rattle.tx_laws.specs.Sound.{IsSound}
-use Rattle.tx_live.specs.Content.{view_of}
-use Rattle.tx_live.specs.declared.content.Content.{Content}
+use Rattle.tx_content.specs.Content.{view_of}
+use Rattle.tx_content.specs.declared.content.Content.{Content}
 use Rattle.tx_model.specs.Answer.{Lawful}
 use Rattle.tx_model.specs.History.{table_of}
 use Rattle.tx_model.specs.Membership.{Table}

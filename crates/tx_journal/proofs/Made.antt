@@ -13,9 +13,9 @@ use Rattle.tx_journal.specs.declared.entry.Entry.{Entry}
 use Rattle.tx_journal.specs.declared.journal.Journal.{Journal}
 use Rattle.tx_laws.specs.Fits.{Fits}
 use Rattle.tx_laws.specs.Sound.{IsSound}
-use Rattle.tx_live.specs.Content.{view_of}
-use Rattle.tx_live.specs.declared.content.Content.{Content}
-use Rattle.tx_live.specs.declared.inverse.Inverse.{Inverse}
+use Rattle.tx_content.specs.Content.{view_of}
+use Rattle.tx_content.specs.declared.content.Content.{Content}
+use Rattle.tx_content.specs.declared.inverse.Inverse.{Inverse}
 use Rattle.tx_model.specs.Answer.{answer, IsAccepted}
 use Rattle.tx_model.specs.Events.{process_of}
 use Rattle.tx_model.specs.Membership.{is_live}

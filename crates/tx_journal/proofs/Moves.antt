@@ -10,10 +10,10 @@ use Rattle.tx_journal.proofs.Walked.{ends_whole, journal_less, journal_made, wit
 use Rattle.tx_journal.specs.Crossings.{Crossed, GoesBack, GoesForward}
 use Rattle.tx_journal.specs.Sessions.{position_of, session_state, HasRoom, IsAhead, IsJournal, SessionState}
 use Rattle.tx_journal.specs.declared.journal.Journal.{Journal}
-use Rattle.tx_live.specs.Content.{view_of}
-use Rattle.tx_live.specs.declared.content.Content.{Content}
-use Rattle.tx_live.specs.declared.inverse.Inverse.{Inverse}
-use Rattle.tx_live.specs.declared.undone.Undone.{Undone}
+use Rattle.tx_content.specs.Content.{view_of}
+use Rattle.tx_content.specs.declared.content.Content.{Content}
+use Rattle.tx_content.specs.declared.inverse.Inverse.{Inverse}
+use Rattle.tx_content.specs.declared.undone.Undone.{Undone}
 
 -- what is so of the fields of a session
 abbrev pub IsSession : Content → Journal → ℕ → ℕ → Type 0

@@ -7,7 +7,7 @@ use Rattle.tx_journal.specs.Entries.{accepted_of, history_of}
 use Rattle.tx_journal.specs.Since.{comes_first, newest_first, Numbered}
 use Rattle.tx_model.specs.State.{Object}
 use Rattle.tx_journal.specs.declared.entry.Entry.{Entry}
-use Rattle.tx_live.specs.declared.inverse.Inverse.{Inverse}
+use Rattle.tx_content.specs.declared.inverse.Inverse.{Inverse}
 
 -- what stands at a place
 pub there : {X : Type 0} (xs : List X) (i : ℕ) → i < length xs → (x : X) × (slice_get xs i ≡ Some x) × (get_or xs i x ≡ x)

@@ -2,8 +2,8 @@
 use Rattle.std.proofs.Common.{◌≡◌, ℕ, Bool, false, ◌&&◌, ◌||◌, ◌==◌, ℤ, List, Some, sym, ap, arith}
 use Rattle.tx_base.specs.declared.steps.Step.{Step}
 use Rattle.tx_laws.specs.OneMoment.{is_sent_to, looks_at_signals}
-use Rattle.tx_live.specs.Content.{content_of, now_of, view_of}
-use Rattle.tx_live.specs.declared.content.Content.{Content}
+use Rattle.tx_content.specs.Content.{content_of, now_of, view_of}
+use Rattle.tx_content.specs.declared.content.Content.{Content}
 use Rattle.tx_model.specs.Events.{Note as Noting, effect, process_of}
 use Rattle.tx_model.specs.Membership.{Role, Aborts}
 use Rattle.tx_model.specs.State.{Sending, State}

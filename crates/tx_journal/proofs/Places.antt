@@ -3,10 +3,10 @@ use Rattle.std.proofs.Common.{◌≡◌, ℕ, ◌+◌, ◌-◌, ◌≤◌, ◌�
 use Rattle.std.proofs.lemmas.List.{append-nil, append_assoc, length-map, length-drop, length-take-le, map-append, reverse-append, reverse-reverse, take-append-drop}
 use Rattle.std.proofs.Math.Seq.{drop-append_seam, get_or-append_seam, set-append_seam, take-append_seam}
 use Rattle.tx_journal.specs.Crossings.{inverses_in, undone_in, IsParted}
-use Rattle.tx_live.specs.Crossings.{inverse_at, undone_at}
-use Rattle.tx_live.specs.declared.crossing.Crossing.{Crossing}
-use Rattle.tx_live.specs.declared.inverse.Inverse.{Inverse}
-use Rattle.tx_live.specs.declared.undone.Undone.{Undone}
+use Rattle.tx_content.specs.Crossings.{inverse_at, undone_at}
+use Rattle.tx_content.specs.declared.crossing.Crossing.{Crossing}
+use Rattle.tx_content.specs.declared.inverse.Inverse.{Inverse}
+use Rattle.tx_content.specs.declared.undone.Undone.{Undone}
 
 -- a list that is not empty has a last element
 pub has_last : {X : Type 0} (xs : List X) → xs ≢ [] → (rest : List X) × (x : X) × (xs ≡ rest ++ x ∷ [])

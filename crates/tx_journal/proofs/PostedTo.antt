@@ -7,8 +7,8 @@ use Rattle.tx_kernel.specs.Plans.{sending_of, sent_at_once}
 use Rattle.tx_kernel.specs.declared.planned.Sends.{Sends}
 use Rattle.tx_kernel.specs.declared.planned.Sends.TheVariants.{AtOnce, AtCommit}
 use Rattle.tx_laws.specs.OneMoment.{is_sent_to}
-use Rattle.tx_live.specs.Content.{held_in}
-use Rattle.tx_live.specs.declared.content.BoxedTxn.{BoxedTxn}
+use Rattle.tx_content.specs.Content.{held_in}
+use Rattle.tx_content.specs.declared.content.BoxedTxn.{BoxedTxn}
 use Rattle.tx_model.specs.State.{Sending as TheSending}
 
 or_assoc : (a b c : Bool) → ((a || b) || c) ≡ (a || (b || c))

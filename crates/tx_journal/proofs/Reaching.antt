@@ -15,8 +15,8 @@ use Rattle.tx_journal.specs.Rows.{limit_of, piece_in}
 use Rattle.tx_journal.specs.declared.rows.Row.{Row}
 use Rattle.tx_kernel.specs.Plans.{sending_of}
 use Rattle.tx_laws.specs.TwoStates.{states_view}
-use Rattle.tx_live.specs.Content.{held_of, view_of}
-use Rattle.tx_live.specs.declared.content.Content.{Content}
+use Rattle.tx_content.specs.Content.{held_of, view_of}
+use Rattle.tx_content.specs.declared.content.Content.{Content}
 use Rattle.tx_model.specs.Footprints.{footprint}
 use Rattle.tx_model.specs.Membership.{Table}
 use Rattle.tx_model.specs.State.{Sending as TheSending, State}

@@ -12,12 +12,12 @@ use Rattle.tx_journal.specs.Sessions.{IsJournal, SessionState, made_of, start_of
 use Rattle.tx_journal.specs.Since.{comes_first, first_touch, newest_first}
 use Rattle.tx_journal.specs.Walks.{WalksBack}
 use Rattle.tx_laws.specs.TwoStates.{is_owner}
-use Rattle.tx_live.specs.Content.{view_of, IsShaped}
-use Rattle.tx_live.specs.Inverses.{Undoes, UndoesBegun, UndoesInside, Revives}
-use Rattle.tx_live.specs.Redone.{EndsWhole, IsGone}
-use Rattle.tx_live.specs.declared.content.Content.{Content}
-use Rattle.tx_live.specs.declared.inverse.Inverse.{Inverse}
-use Rattle.tx_live.specs.declared.inverse.Inverse.TheVariants.{Outside, Inside, Begun, Committed, Aborted}
+use Rattle.tx_content.specs.Content.{view_of, IsShaped}
+use Rattle.tx_content.specs.Inverses.{Undoes, UndoesBegun, UndoesInside, Revives}
+use Rattle.tx_content.specs.Redone.{EndsWhole, IsGone}
+use Rattle.tx_content.specs.declared.content.Content.{Content}
+use Rattle.tx_content.specs.declared.inverse.Inverse.{Inverse}
+use Rattle.tx_content.specs.declared.inverse.Inverse.TheVariants.{Outside, Inside, Begun, Committed, Aborted}
 use Rattle.tx_model.specs.History.{reserved_of}
 use Rattle.tx_model.specs.State.{Object, State}
 use Rattle.tx_model.specs.View.{View, view}

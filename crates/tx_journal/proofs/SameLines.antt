@@ -13,10 +13,10 @@ use Rattle.tx_laws.specs.Sound.{IsSound}
 use Rattle.tx_model.specs.Answer.{answer, IsAccepted}
 use Rattle.tx_model.specs.State.{Sending, Proc, Desc, Pipe}
 use Rattle.tx_model.specs.View.{View, next, present}
-use Rattle.tx_text.specs.Descriptors.{desc_line, pipe_line}
-use Rattle.tx_text.specs.Pieces.{fd_of, ids_of, page_of, pending_of, queue_of}
-use Rattle.tx_text.specs.Processes.{process_lines}
-use Rattle.tx_text.specs.Txns.{mark_text, members_text, txn_lines}
+use Rattle.tx_state_text.specs.Descriptors.{desc_line, pipe_line}
+use Rattle.tx_state_text.specs.Pieces.{fd_of, ids_of, page_of, pending_of, queue_of}
+use Rattle.tx_state_text.specs.Processes.{process_lines}
+use Rattle.tx_state_text.specs.Txns.{mark_text, members_text, txn_lines}
 
 mark_own : (width : ℕ) (marks : ℕ → Option Mark) (s : ℕ) (sends : List Sending) (mark : Option Mark) → mark_text width marks s sends (own_mark s mark) ≡ mark_text width marks s sends mark
 mark_own width marks s sends mark = grind arith

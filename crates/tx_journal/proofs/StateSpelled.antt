@@ -2,15 +2,15 @@
 use Rattle.std.proofs.Common.{◌≡◌, ℕ, List, ◌++◌, length, codes, refl, append_assoc, arith}
 use Rattle.tx_base.specs.Slots.{slot_at}
 use Rattle.tx_change.specs.declared.parts.Parts.{Parts}
-use Rattle.tx_live.specs.declared.content.Content.{Content}
+use Rattle.tx_content.specs.declared.content.Content.{Content}
 use Rattle.tx_change.specs.States.{state_of}
-use Rattle.tx_live.specs.Content.{held_of, view_of}
+use Rattle.tx_content.specs.Content.{held_of, view_of}
 use Rattle.tx_laws.specs.TwoStates.{states_view}
 use Rattle.tx_model.specs.View.{present}
-use Rattle.tx_text.specs.Descriptors.{descs_text, pipes_text}
-use Rattle.tx_text.specs.State.{state_text}
-use Rattle.tx_text.specs.Processes.{procs_text}
-use Rattle.tx_text.specs.Txns.{txns_text}
+use Rattle.tx_state_text.specs.Descriptors.{descs_text, pipes_text}
+use Rattle.tx_state_text.specs.State.{state_text}
+use Rattle.tx_state_text.specs.Processes.{procs_text}
+use Rattle.tx_state_text.specs.Txns.{txns_text}
 
 pub marks_are : (k : Content) → slot_at k.marks ≡ (view_of k).table.marks
 unfolding view_of states_view

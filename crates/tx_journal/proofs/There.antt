@@ -4,8 +4,8 @@ use Rattle.std.proofs.lemmas.List.{get_or-take, length-take-le}
 use Rattle.std.proofs.lemmas.Option.{slice_get-get_or, slice_get-map, slice_get_past}
 use Rattle.tx_journal.proofs.Places.{lead_all}
 use Rattle.tx_journal.specs.Crossings.{inverses_in, IsParted}
-use Rattle.tx_live.specs.Crossings.{inverse_at}
-use Rattle.tx_live.specs.declared.crossing.Crossing.{Crossing}
+use Rattle.tx_content.specs.Crossings.{inverse_at}
+use Rattle.tx_content.specs.declared.crossing.Crossing.{Crossing}
 
 some_same : {A : Type 0} (x y : Option A) → option_map Some x ≡ Some y → x ≡ y
 some_same x y same = grind arith

@@ -11,8 +11,8 @@ use Rattle.tx_journal.proofs.Walked.{lawful_to}
 use Rattle.tx_journal.specs.Entries.{history_of}
 use Rattle.tx_journal.specs.Sessions.{IsJournal, SessionState, made_of, start_of}
 use Rattle.tx_journal.specs.Trials.{answer_there, shown_with}
-use Rattle.tx_live.specs.Content.{view_of}
-use Rattle.tx_live.specs.declared.content.Content.{Content}
+use Rattle.tx_content.specs.Content.{view_of}
+use Rattle.tx_content.specs.declared.content.Content.{Content}
 use Rattle.tx_model.specs.Answer.{answer, IsAccepted}
 use Rattle.tx_model.specs.Schedules.{history_with}
 use Rattle.tx_model.specs.View.{view}

@@ -5,14 +5,14 @@ use Rattle.tx_change.specs.declared.change.Change.{Change}
 use Rattle.tx_core.specs.Undo.{LeadsBack}
 use Rattle.tx_journal.proofs.Places.{back_there, cut_parts, forward_there, has_last, inverses_are, more_parts, parted, parts_of, popped, turned_back, turned_forward, undone_are, AreParted}
 use Rattle.tx_journal.specs.Crossings.{crossed_in, inverses_in, undone_in, GoesBack, GoesForward, IsParted}
-use Rattle.tx_live.specs.CrossingFacts.{back_by, back_of, forward_by, is_back, is_forward, moved_forward}
-use Rattle.tx_live.specs.Crossings.{inverse_at, moved_over, undone_at, HoldsBack, HoldsForward}
-use Rattle.tx_live.specs.Inverses.{Undoes}
-use Rattle.tx_live.specs.Redone.{EndsWhole, IsTakenBack}
-use Rattle.tx_live.specs.declared.content.Content.{Content}
-use Rattle.tx_live.specs.declared.crossing.Crossing.{Crossing}
-use Rattle.tx_live.specs.declared.inverse.Inverse.{Inverse}
-use Rattle.tx_live.specs.declared.undone.Undone.{Undone}
+use Rattle.tx_content.specs.CrossingFacts.{back_by, back_of, forward_by, is_back, is_forward, moved_forward}
+use Rattle.tx_content.specs.Crossings.{inverse_at, moved_over, undone_at, HoldsBack, HoldsForward}
+use Rattle.tx_content.specs.Inverses.{Undoes}
+use Rattle.tx_content.specs.Redone.{EndsWhole, IsTakenBack}
+use Rattle.tx_content.specs.declared.content.Content.{Content}
+use Rattle.tx_content.specs.declared.crossing.Crossing.{Crossing}
+use Rattle.tx_content.specs.declared.inverse.Inverse.{Inverse}
+use Rattle.tx_content.specs.declared.undone.Undone.{Undone}
 
 module _ (places : List Crossing) (made : ℕ) (is : IsParted places made) where
   abbrev backs : List Inverse

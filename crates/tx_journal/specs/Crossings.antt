@@ -3,13 +3,13 @@ use Rattle.std.specs.Prelude.{◌≡◌, ◌⊎◌, ℕ, ◌+◌, List, [], ◌�
 use Rattle.tx_change.specs.Stacks.{below_top}
 use Rattle.tx_change.specs.declared.change.Change.{Change}
 use Rattle.tx_core.specs.Undo.{LeadsBack}
-use Rattle.tx_live.specs.Crossings.{inverse_at, undone_at}
-use Rattle.tx_live.specs.Inverses.{Undoes}
-use Rattle.tx_live.specs.Redone.{moved_by, EndsWhole, IsTakenBack}
-use Rattle.tx_live.specs.declared.content.Content.{Content}
-use Rattle.tx_live.specs.declared.crossing.Crossing.{Crossing}
-use Rattle.tx_live.specs.declared.inverse.Inverse.{Inverse}
-use Rattle.tx_live.specs.declared.undone.Undone.{Undone}
+use Rattle.tx_content.specs.Crossings.{inverse_at, undone_at}
+use Rattle.tx_content.specs.Inverses.{Undoes}
+use Rattle.tx_content.specs.Redone.{moved_by, EndsWhole, IsTakenBack}
+use Rattle.tx_content.specs.declared.content.Content.{Content}
+use Rattle.tx_content.specs.declared.crossing.Crossing.{Crossing}
+use Rattle.tx_content.specs.declared.inverse.Inverse.{Inverse}
+use Rattle.tx_content.specs.declared.undone.Undone.{Undone}
 
 -- what takes back the entries that are made, the oldest first; what is kept to make those after them again, the next one first; the changes
 -- on its stack; and for how many entries there is room

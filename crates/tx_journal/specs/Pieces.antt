@@ -3,10 +3,10 @@ use Rattle.std.specs.Prelude.{ℕ, List, [], nat_le, if◌then◌else◌}
 use Rattle.tx_journal.specs.declared.pieces.Piece.{Piece}
 use Rattle.tx_journal.specs.declared.pieces.Piece.TheVariants.{Proc, Page, Fd, Pending, Queue, Ids, Desc, Pipe, Txn}
 use Rattle.tx_model.specs.View.{View, present}
-use Rattle.tx_text.specs.Descriptors.{desc_line, pipe_line}
-use Rattle.tx_text.specs.Pieces.{fd_of, ids_of, page_of, pending_of, queue_of}
-use Rattle.tx_text.specs.Processes.{process_lines}
-use Rattle.tx_text.specs.Txns.{txn_lines}
+use Rattle.tx_state_text.specs.Descriptors.{desc_line, pipe_line}
+use Rattle.tx_state_text.specs.Pieces.{fd_of, ids_of, page_of, pending_of, queue_of}
+use Rattle.tx_state_text.specs.Processes.{process_lines}
+use Rattle.tx_state_text.specs.Txns.{txn_lines}
 
 -- the lines of a piece, as the text of the state has them: none if there is no such piece
 abbrev pub piece_text : Piece → View → List ℕ

@@ -6,11 +6,11 @@ use Rattle.tx_journal.specs.Crossings.{SameCrossed}
 use Rattle.tx_journal.specs.Lives.{has_place, lives}
 use Rattle.tx_journal.specs.declared.entry.Entry.{Entry}
 use Rattle.tx_journal.specs.declared.journal.Journal.{Journal}
-use Rattle.tx_live.specs.Content.{view_of}
-use Rattle.tx_live.specs.Inverses.{Undoes}
-use Rattle.tx_live.specs.Redone.{EndsWhole}
-use Rattle.tx_live.specs.declared.content.Content.{Content}
-use Rattle.tx_live.specs.declared.inverse.Inverse.{Inverse}
+use Rattle.tx_content.specs.Content.{view_of}
+use Rattle.tx_content.specs.Inverses.{Undoes}
+use Rattle.tx_content.specs.Redone.{EndsWhole}
+use Rattle.tx_content.specs.declared.content.Content.{Content}
+use Rattle.tx_content.specs.declared.inverse.Inverse.{Inverse}
 use Rattle.tx_model.specs.Membership.{Table}
 
 -- it has the same in it

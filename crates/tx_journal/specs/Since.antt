@@ -3,8 +3,8 @@ use Rattle.std.specs.Prelude.{ℕ, suc, Bool, false, not, ◌&&◌, ◌==◌, Li
 use Rattle.tx_base.specs.declared.steps.Accepted.{Accepted}
 use Rattle.tx_base.specs.declared.steps.Step.{Step}
 use Rattle.tx_journal.specs.declared.since.Touch.{Touch}
-use Rattle.tx_live.specs.declared.inverse.Inverse.{Inverse}
-use Rattle.tx_live.specs.declared.inverse.Inverse.TheVariants.{Outside, Inside, Begun, Committed, Aborted}
+use Rattle.tx_content.specs.declared.inverse.Inverse.{Inverse}
+use Rattle.tx_content.specs.declared.inverse.Inverse.TheVariants.{Outside, Inside, Begun, Committed, Aborted}
 use Rattle.tx_model.specs.History.{reserved_of}
 use Rattle.tx_model.specs.State.{Object, State}
 use Rattle.tx_reserve.specs.Objects.{is_in}

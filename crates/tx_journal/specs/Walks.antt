@@ -4,12 +4,12 @@ use Rattle.tx_base.specs.declared.steps.Accepted.{Accepted}
 use Rattle.tx_change.specs.declared.change.Change.{Change}
 use Rattle.tx_core.specs.Machines.{IsMachine}
 use Rattle.tx_core.specs.Undo.{LeadsBack}
-use Rattle.tx_live.specs.Content.{view_of}
-use Rattle.tx_live.specs.Inverses.{Undoes}
-use Rattle.tx_live.specs.Redone.{EndsWhole, IsTakenBack}
-use Rattle.tx_live.specs.declared.content.Content.{Content}
-use Rattle.tx_live.specs.declared.inverse.Inverse.{Inverse}
-use Rattle.tx_live.specs.declared.undone.Undone.{Undone}
+use Rattle.tx_content.specs.Content.{view_of}
+use Rattle.tx_content.specs.Inverses.{Undoes}
+use Rattle.tx_content.specs.Redone.{EndsWhole, IsTakenBack}
+use Rattle.tx_content.specs.declared.content.Content.{Content}
+use Rattle.tx_content.specs.declared.inverse.Inverse.{Inverse}
+use Rattle.tx_content.specs.declared.undone.Undone.{Undone}
 use Rattle.tx_model.specs.State.{State}
 use Rattle.tx_model.specs.View.{view}
 

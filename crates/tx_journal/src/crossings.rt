@@ -3,16 +3,16 @@ ghost use Rattle.std.specs.Prelude.{◌≡◌, ◌≢◌, ◌↔◌, ◌++◌, �
 ghost use Rattle.std.specs.Option.{option_copied};
 ghost use Rattle.tx_core.specs.Undo.{LeadsBack, LeadsOn};
 ghost use Rattle.tx_journal.specs.Crossings.{GoesBack, GoesForward, SameCrossed};
-ghost use Rattle.tx_live.specs.declared.inverse.Inverse.{Inverse as TheInverse};
-ghost use Rattle.tx_live.specs.declared.undone.Undone.{Undone};
+ghost use Rattle.tx_content.specs.declared.inverse.Inverse.{Inverse as TheInverse};
+ghost use Rattle.tx_content.specs.declared.undone.Undone.{Undone};
 
 use crate::faults::AtStart;
 use std::alloc::Global;
 use std::marker::Model;
 use tx_base::NoMemory;
 use tx_change::Change;
+use tx_content::{Crossing, Inverse};
 use tx_core::Machine;
-use tx_live::{Crossing, Inverse};
 
 /// What leads over the entries of a session: back over those that are made, and forward over those
 /// after them, as far as that is kept. Contracts see what takes back the former, what makes the

@@ -2,7 +2,7 @@
 ghost use Rattle.std.specs.Prelude.{◌≡◌};
 ghost use Rattle.tx_journal.specs.Lives.{lives};
 ghost use Rattle.tx_journal.specs.Sessions.{IsAtEnd, SameBoot, made_of};
-ghost use Rattle.tx_live.specs.Content.{view_of};
+ghost use Rattle.tx_content.specs.Content.{view_of};
 
 use crate::making::is_live;
 use crate::session::Session;

@@ -7,7 +7,7 @@ use crate::entry::Entry;
 use std::alloc::Global;
 use std::mem;
 use tx_base::{Call, NoMemory, Pid, Reply, Step};
-use tx_live::Inverse;
+use tx_content::Inverse;
 
 /// All entries of a session, and what leads over them.
 #[derive(Drop)]

@@ -31,7 +31,7 @@
 //!
 //! # Retrace
 //!
-//! A content of tx_live that makes a history's steps again, from boot. `next` answers a step's
+//! A content of tx_content that makes a history's steps again, from boot. `next` answers a step's
 //! `Note`: its transaction's starter, and whether the step begins it, commits it, or shows its
 //! moment. What a commit posts is read from the outbox before it is made.
 

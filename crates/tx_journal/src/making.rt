@@ -7,7 +7,7 @@ ghost use Rattle.tx_journal.specs.Entries.{entry_by};
 ghost use Rattle.tx_journal.specs.Lives.{has_place, one_if, starter_by, starter_of};
 ghost use Rattle.tx_journal.specs.Rooms.{IsAdded, IsCounted, IsReady, SameRecord};
 ghost use Rattle.tx_laws.specs.Sound.{IsSound};
-ghost use Rattle.tx_live.specs.Content.{view_of};
+ghost use Rattle.tx_content.specs.Content.{view_of};
 ghost use Rattle.tx_model.specs.Answer.{IsAccepted, answer};
 ghost use Rattle.tx_model.specs.Membership.{is_live};
 ghost use Rattle.tx_model.specs.View.{kernel_status};
@@ -17,8 +17,8 @@ use crate::journal::Journal;
 use crate::laws::laws;
 use std::alloc::Global;
 use tx_base::{Call, NoMemory, Pid, Refusal, Reply, Step};
+use tx_content::Inverse;
 use tx_core::{Machine, NoTransaction};
-use tx_live::Inverse;
 
 /// Makes a step, puts its reply into the caller's place, and moves it into its entry if it was
 /// accepted. The entry's place is reserved first, except for an abort, which has its own. Answers

@@ -6,16 +6,16 @@ ghost use Rattle.tx_step.specs.Contents.{IsContent};
 ghost use Rattle.tx_step.specs.Roles.{role_as};
 ghost use Rattle.tx_step.specs.Ways.{posted_with};
 ghost use Rattle.tx_laws.specs.OneMoment.{call_looks};
-ghost use Rattle.tx_live.specs.Content.{view_of};
-ghost use Rattle.tx_live.specs.Made.{IsRunning};
+ghost use Rattle.tx_content.specs.Content.{view_of};
+ghost use Rattle.tx_content.specs.Made.{IsRunning};
 ghost use Rattle.tx_reserve.specs.Reservations.{number_of};
 ghost use Rattle.tx_journal.specs.Notes.{begins_one, commits_one, noted, noted_by, starter_by, IsNoteOn};
 
 use crate::posted::is_posted_to;
 use crate::retrace_laws::laws;
 use tx_base::{Call, Pid, Signo, Step};
+use tx_content::Content;
 use tx_kernel::Sends;
-use tx_live::Content;
 use tx_step::{StepRole, actor_of, is_running, role_of_call, role_of_delivery};
 
 /// What a step of a history is to its transaction.

@@ -3,12 +3,12 @@ ghost use Rattle.std.specs.Prelude.{◌≡◌, ◌++◌, IfOk, OnOk, map, string
 ghost use Rattle.tx_journal.specs.Pieces.{piece_text};
 ghost use Rattle.tx_journal.specs.Rows.{lines_of};
 ghost use Rattle.tx_journal.specs.declared.pieces.Piece.TheVariants.{Txn};
-ghost use Rattle.tx_live.specs.Content.{view_of};
+ghost use Rattle.tx_content.specs.Content.{view_of};
 
 use std::alloc::{AllocError, Global};
 use tx_base::{DescNo, NoMemory, Pid, PipeNo};
 use tx_core::Machine;
-use tx_text::{
+use tx_state_text::{
     Links, put_desc_line, put_fd_of, put_ids_of, put_page_of, put_pending_of, put_pipe_line,
     put_queue_of, put_slot_lines, put_txn_lines,
 };

@@ -4,11 +4,11 @@ ghost use Rattle.tx_step.specs.Faces.{sent_at_commit};
 ghost use Rattle.tx_step.specs.Ways.{posted_with};
 ghost use Rattle.tx_kernel.specs.Plans.{sending_of, sent_at_once};
 ghost use Rattle.tx_laws.specs.OneMoment.{is_sent_to};
-ghost use Rattle.tx_live.specs.Content.{held_of};
+ghost use Rattle.tx_content.specs.Content.{held_of};
 
 use tx_base::{Pid, Sending};
+use tx_content::Content;
 use tx_kernel::Sends;
-use tx_live::Content;
 use tx_step::StepRole;
 
 /// Whether something that is posted with a step goes to the process: what the step sends at once;

@@ -4,7 +4,7 @@ ghost use Rattle.tx_base.specs.Slots.{slot_at};
 ghost use Rattle.tx_base.specs.declared.steps.Step.{Step as TheStep};
 ghost use Rattle.tx_journal.specs.Reach.{is_reached, may_change, own_mark};
 ghost use Rattle.tx_journal.specs.Reaches.{IsSmall, Reaches};
-ghost use Rattle.tx_live.specs.Content.{view_of};
+ghost use Rattle.tx_content.specs.Content.{view_of};
 ghost use Rattle.tx_reserve.specs.Objects.{is_small, object_of};
 
 use crate::making::{has_place, starter_before};

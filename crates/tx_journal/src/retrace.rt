@@ -3,7 +3,7 @@ ghost use Rattle.std.specs.Prelude.{◌≡◌, ◌≤◌, ◌∷◌, [], List, I
 ghost use Rattle.tx_base.specs.declared.steps.Accepted.{Accepted};
 ghost use Rattle.tx_base.specs.declared.steps.Reply.{Reply as TheReply};
 ghost use Rattle.tx_step.specs.Contents.{IsContent};
-ghost use Rattle.tx_live.specs.Content.{view_of};
+ghost use Rattle.tx_content.specs.Content.{view_of};
 ghost use Rattle.tx_model.specs.Answer.{Lawful};
 ghost use Rattle.tx_model.specs.State.{State, boot_state};
 ghost use Rattle.tx_model.specs.View.{next, view};
@@ -14,7 +14,7 @@ use crate::retrace_laws::laws;
 use std::alloc::Global;
 use std::marker::Model;
 use tx_base::{NoMemory, Step};
-use tx_live::{Content, Inverse};
+use tx_content::{Content, Inverse};
 use tx_step::{take_call, take_delivery, take_kernel_abort};
 
 /// A kernel that makes the steps of a history once more, and takes none back.
@@ -25,7 +25,7 @@ pub struct Retrace {
 
 impl Model for Retrace {
     ghost use Rattle.tx_step.specs.Contents.{IsContent};
-    ghost use Rattle.tx_live.specs.declared.content.Content.{Content as TheContent};
+    ghost use Rattle.tx_content.specs.declared.content.Content.{Content as TheContent};
 
     ghost Value = { TheContent };
 

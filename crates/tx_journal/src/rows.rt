@@ -6,7 +6,7 @@ ghost use Rattle.tx_core.specs.Machines.{IsWidth};
 ghost use Rattle.tx_journal.specs.Reach.{is_reached, reached_pieces};
 ghost use Rattle.tx_journal.specs.Reaches.{Reaches};
 ghost use Rattle.tx_journal.specs.Rows.{limit_of, piece_in, row_pieces, state_pieces};
-ghost use Rattle.tx_live.specs.Content.{view_of};
+ghost use Rattle.tx_content.specs.Content.{view_of};
 
 use crate::pieces::Piece;
 use crate::reach::Reach;

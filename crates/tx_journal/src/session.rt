@@ -5,11 +5,11 @@ ghost use Rattle.tx_core.specs.Machines.{IsWidth};
 ghost use Rattle.tx_journal.specs.Entries.{entry_at, history_of};
 ghost use Rattle.tx_journal.specs.Sessions.{made_of, position_of, start_of};
 ghost use Rattle.tx_lines.specs.Lines.{most_of, FitsHeader};
-ghost use Rattle.tx_live.specs.Content.{view_of};
+ghost use Rattle.tx_content.specs.Content.{view_of};
 ghost use Rattle.tx_model.specs.Answer.{Agreement, Lawful};
 ghost use Rattle.tx_model.specs.View.{view};
 ghost use Rattle.tx_moment.specs.Moments.{HasMoments};
-ghost use Rattle.tx_text.specs.State.{state_text};
+ghost use Rattle.tx_state_text.specs.State.{state_text};
 
 use crate::entry::Entry;
 use crate::journal::Journal;

@@ -3,7 +3,7 @@ ghost use Rattle.std.specs.Prelude.{◌≡◌, ◌<◌, ◌≤◌, Some, length,
 ghost use Rattle.tx_journal.specs.Entries.{history_of};
 ghost use Rattle.tx_journal.specs.Sessions.{made_of, start_of};
 ghost use Rattle.tx_journal.specs.Since.{comes_first, first_touch, newest_first, numbered};
-ghost use Rattle.tx_live.specs.declared.inverse.Inverse.{Inverse as TheInverse};
+ghost use Rattle.tx_content.specs.declared.inverse.Inverse.{Inverse as TheInverse};
 ghost use Rattle.tx_reserve.specs.Objects.{object_of};
 
 use crate::crossings::Crossings;
@@ -11,7 +11,7 @@ use crate::entry::Entry;
 use crate::laws::laws;
 use crate::session::Session;
 use tx_base::{Pid, Step};
-use tx_live::Inverse;
+use tx_content::Inverse;
 use tx_reserve::{Object, owners_are_told};
 
 /// A step since which a transaction has reserved an object, and the step's number, from 1.

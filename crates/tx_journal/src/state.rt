@@ -1,16 +1,16 @@
 //! Prints the state of a machine.
 ghost use Rattle.std.specs.Prelude.{◌≡◌, ◌++◌, IfOk, OnOk, string_bytes};
 ghost use Rattle.tx_base.specs.Slots.{slot_at};
-ghost use Rattle.tx_live.specs.Content.{view_of};
+ghost use Rattle.tx_content.specs.Content.{view_of};
 ghost use Rattle.tx_model.specs.View.{present};
-ghost use Rattle.tx_text.specs.State.{state_text};
-ghost use Rattle.tx_text.specs.Txns.{txns_text};
+ghost use Rattle.tx_state_text.specs.State.{state_text};
+ghost use Rattle.tx_state_text.specs.Txns.{txns_text};
 
 use std::alloc::{AllocError, Global};
 use tx_base::{NoMemory, Pid};
 use tx_core::Machine;
 use tx_lines::put;
-use tx_text::{Links, put_descs, put_pipes, put_procs, put_txn_lines};
+use tx_state_text::{Links, put_descs, put_pipes, put_procs, put_txn_lines};
 
 /// The text of a machine's state, from its line `state` on: its processes, descriptions, pipes and
 /// live transactions. The only error is that a growth of memory was refused; the machine is only

@@ -4,7 +4,7 @@ ghost use Rattle.tx_base.specs.declared.steps.Reply.TheVariants.{No};
 ghost use Rattle.tx_core.specs.Runs.{kernel_abort_on};
 ghost use Rattle.tx_journal.specs.Entries.{entry_by, history_of};
 ghost use Rattle.tx_journal.specs.Sessions.{IsAtEnd, SameBoot, start_of};
-ghost use Rattle.tx_live.specs.Content.{view_of};
+ghost use Rattle.tx_content.specs.Content.{view_of};
 ghost use Rattle.tx_model.specs.Answer.{IsAccepted, answer};
 ghost use Rattle.tx_model.specs.Membership.{is_live};
 ghost use Rattle.tx_moment.specs.Moments.{HasMoments};

@@ -4,9 +4,9 @@ ghost use Rattle.tx_core.specs.Undo.{LeadsBack};
 ghost use Rattle.tx_journal.specs.Reach.{CoverChanges};
 ghost use Rattle.tx_journal.specs.Rows.{lines_of};
 ghost use Rattle.tx_journal.specs.Trials.{answer_there, shown_at, shown_with};
-ghost use Rattle.tx_live.specs.Content.{view_of};
-ghost use Rattle.tx_live.specs.Inverses.{Undoes};
-ghost use Rattle.tx_live.specs.declared.content.Content.{Content};
+ghost use Rattle.tx_content.specs.Content.{view_of};
+ghost use Rattle.tx_content.specs.Inverses.{Undoes};
+ghost use Rattle.tx_content.specs.declared.content.Content.{Content};
 
 use crate::pieces::{Piece, print_pieces};
 use crate::reach_laws::reach_laws;
@@ -14,8 +14,8 @@ use crate::rows::list_reached;
 use crate::session::Session;
 use std::alloc::Global;
 use tx_base::{NoMemory, Reply, Step};
+use tx_content::Inverse;
 use tx_core::Machine;
-use tx_live::Inverse;
 
 impl Session {
     /// The reply that a step would get at the position, and the lines that each of some pieces of

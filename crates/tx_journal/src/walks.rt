@@ -9,7 +9,7 @@ use crate::laws::laws;
 use crate::session::Session;
 use std::alloc::Global;
 use tx_base::{NoMemory, Reply};
-use tx_live::Inverse;
+use tx_content::Inverse;
 
 impl Session {
     /// Takes back the newest entry that is made. It takes no memory.

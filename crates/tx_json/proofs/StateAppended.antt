@@ -8,8 +8,8 @@ use Rattle.tx_json.specs.Members.{begin_object, end_object}
 use Rattle.tx_json.specs.State.{parts_tokens, state_tokens}
 use Rattle.tx_json.specs.Txns.{txns_member}
 use Rattle.tx_laws.specs.TwoStates.{states_view}
-use Rattle.tx_live.specs.Content.{held_of, view_of}
-use Rattle.tx_live.specs.declared.content.Content.{Content}
+use Rattle.tx_content.specs.Content.{held_of, view_of}
+use Rattle.tx_content.specs.declared.content.Content.{Content}
 use Rattle.tx_model.specs.State.{State}
 use Rattle.tx_model.specs.View.{present}
 

@@ -11,7 +11,7 @@ use Rattle.tx_base.specs.declared.steps.Reply.TheVariants.{Done, Ended, Committe
 use Rattle.tx_json.specs.Each.{each_tokens}
 use Rattle.tx_json.specs.Members.{count_member, begin_object, end_object, list_member, number_member, word_member}
 use Rattle.tx_lines.specs.Refusals.{refusal_word}
-use Rattle.tx_text.specs.Replies.{error_name}
+use Rattle.tx_state_text.specs.Replies.{error_name}
 
 -- a refusal, and who holds what is wanted
 abbrev pub refusal_members : Refusal → List Token

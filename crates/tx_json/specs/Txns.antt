@@ -6,7 +6,7 @@ use Rattle.tx_json.specs.Each.{each_tokens, upto}
 use Rattle.tx_json.specs.Lists.{count_item}
 use Rattle.tx_json.specs.Members.{begin_object, count_member, end_object, flag_member, list_member, number_member}
 use Rattle.tx_model.specs.State.{Sending}
-use Rattle.tx_text.specs.Txns.{is_listed_in}
+use Rattle.tx_state_text.specs.Txns.{is_listed_in}
 
 -- a member, where its mark is one of that transaction and its part has ended or not
 abbrev pub member_item : (ℕ → Option Mark) → ℕ → Bool → ℕ → List Token

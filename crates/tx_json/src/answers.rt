@@ -5,7 +5,7 @@ ghost use Rattle.tx_json.specs.Answers.{empty_answer, entry_answer, error_answer
 ghost use Rattle.tx_json.specs.Each.{each_tokens};
 ghost use Rattle.tx_json.specs.Line.{IsLineOf};
 ghost use Rattle.tx_json.specs.Members.{end_object};
-ghost use Rattle.tx_live.specs.Content.{view_of};
+ghost use Rattle.tx_content.specs.Content.{view_of};
 
 use crate::line::LineWriter;
 use crate::members::{begin_list, begin_object, end_list, end_object, put_count, put_word};

@@ -3,7 +3,7 @@ ghost use Rattle.std.specs.Prelude.{◌≡◌, ◌++◌, OnOk, codes};
 ghost use Rattle.tx_json.specs.Members.{list_member};
 ghost use Rattle.tx_json.specs.Each.{each_tokens};
 ghost use Rattle.tx_json.specs.Replies.{error_members, missed_tokens, refusal_members, reply_members};
-ghost use Rattle.tx_text.specs.Replies.{error_name};
+ghost use Rattle.tx_state_text.specs.Replies.{error_name};
 
 use crate::line::LineWriter;
 use crate::members::{
@@ -12,7 +12,7 @@ use crate::members::{
 use std::alloc::{AllocError, Global};
 use tx_base::{Missed, Refusal, Reply};
 use tx_lines::refusal_word;
-use tx_text::error_name;
+use tx_state_text::error_name;
 
 /// Appends the members that say what a step was answered. The only error is that a growth of memory
 /// was refused: the writer may then end in some of them.

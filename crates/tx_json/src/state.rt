@@ -4,7 +4,7 @@ ghost use Rattle.tx_base.specs.Slots.{slot_at};
 ghost use Rattle.tx_change.specs.States.{state_of};
 ghost use Rattle.tx_json.specs.State.{parts_tokens, state_tokens};
 ghost use Rattle.tx_json.specs.Txns.{mark_item, txns_member};
-ghost use Rattle.tx_live.specs.Content.{view_of};
+ghost use Rattle.tx_content.specs.Content.{view_of};
 ghost use Rattle.tx_model.specs.View.{present};
 
 use crate::descriptors::{put_descs, put_pipes};

@@ -12,7 +12,7 @@ use crate::members::{
 };
 use std::alloc::AllocError;
 use tx_base::{Mark, Pid, Sending, Slots};
-use tx_text::is_listed;
+use tx_state_text::is_listed;
 
 /// Appends a live transaction, with what it holds.
 pub fn put_txn(

@@ -28,7 +28,7 @@
 //!
 //! `act` and `deliver` find the process (`Actor::at`), plan and exchange; the log then has what
 //! leads back (`Makes`). `plans_are_made` says the same of whoever plans and exchanges. Both keep
-//! the parts whole (`IsWhole`). The machine uses neither: tx_live exchanges what `Actor::plan`
+//! the parts whole (`IsWhole`). The machine uses neither: tx_content exchanges what `Actor::plan`
 //! appends.
 
 mod actor;

@@ -5,7 +5,7 @@ use std::mem;
 use std::test::Fail;
 use tx_base::{Errno, PROCESSES, Pid, SigSet, Slots, WIDE_PROCESSES};
 use tx_change::Change;
-use tx_live::Inverse;
+use tx_content::Inverse;
 use tx_signal::known;
 
 #[test]

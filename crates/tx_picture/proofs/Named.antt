@@ -9,8 +9,8 @@ use Rattle.tx_picture.specs.Names.{birth_by, births_from, life_of, lives_from, w
 use Rattle.tx_picture.specs.Ties.{tie_of}
 use Rattle.tx_picture.specs.declared.births.Birth.{Birth}
 use Rattle.tx_picture.specs.declared.lives.Life.{Life}
-use Rattle.tx_plain.specs.Written.{name_at, NameAt}
-use Rattle.tx_plain.specs.declared.written.Named.{Named}
+use Rattle.tx_translate.specs.Written.{name_at, NameAt}
+use Rattle.tx_translate.specs.declared.written.Named.{Named}
 
 -- Births
 

@@ -7,7 +7,7 @@ use Rattle.tx_lines.specs.declared.faults.Fault.{Fault}
 use Rattle.tx_picture.specs.Command.{Pictures}
 use Rattle.tx_picture.specs.Grammars.{pictures}
 use Rattle.tx_picture.specs.declared.excerpts.Excerpt.{Excerpt}
-use Rattle.tx_plain.specs.Written.{notes_of}
+use Rattle.tx_translate.specs.Written.{notes_of}
 use Rattle.tx_script.specs.Answered.{Answers}
 
 -- the bytes that are known to be left

@@ -3,7 +3,7 @@ use Rattle.std.proofs.Common.{◌≡◌, ℕ, List, Result, Ok, Err, IfOk, IfErr
 use Rattle.tx_lines.specs.Schedule.{FaultsBy}
 use Rattle.tx_lines.specs.declared.faults.Fault.{Fault}
 use Rattle.tx_lines.specs.declared.faults.Fault.TheVariants.{NoMemory}
-use Rattle.tx_plain.specs.Meant.{meant_of, IsOwnFault}
+use Rattle.tx_translate.specs.Meant.{meant_of, IsOwnFault}
 use Rattle.tx_script.specs.Grammars.{Grammar, AnswersText}
 
 -- where the only fault is want of memory

@@ -6,7 +6,7 @@ use Rattle.tx_picture.specs.Names.{births_for, instance, is_life, lives_from}
 use Rattle.tx_picture.specs.declared.births.Birth.{Birth}
 use Rattle.tx_picture.specs.declared.captions.Captions.{Captions}
 use Rattle.tx_picture.specs.declared.lives.Life.{Life}
-use Rattle.tx_plain.specs.Written.{notes_as, NameAt, Notes}
+use Rattle.tx_translate.specs.Written.{notes_as, NameAt, Notes}
 
 pub record Captioned : Type 0 where
   -- what the author wrote

@@ -4,7 +4,7 @@ use Rattle.tx_lines.specs.Ends.{Counts}
 use Rattle.tx_lines.specs.declared.faults.Fault.{Fault}
 use Rattle.tx_picture.specs.Grammars.{pictures}
 use Rattle.tx_picture.specs.declared.excerpts.Excerpt.{Excerpt}
-use Rattle.tx_plain.specs.Written.{notes_of}
+use Rattle.tx_translate.specs.Written.{notes_of}
 use Rattle.tx_script.specs.Answered.{Answers}
 
 -- a text is read, and the picture of an excerpt of it written, with what its author wrote, or a front of that, or nothing, as the fault says

@@ -7,7 +7,7 @@ use Rattle.tx_picture.specs.Captions.{captioned_in}
 use Rattle.tx_picture.specs.Excerpts.{drawing_in}
 use Rattle.tx_picture.specs.Pictures.{picture_of}
 use Rattle.tx_picture.specs.declared.excerpts.Excerpt.{Excerpt}
-use Rattle.tx_plain.specs.Written.{Notes}
+use Rattle.tx_translate.specs.Written.{Notes}
 use Rattle.tx_script.specs.Grammars.{Grammar}
 
 -- a header and steps, as those that are replayed, answered by the picture of an excerpt of them, with what their author wrote

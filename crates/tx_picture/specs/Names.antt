@@ -10,7 +10,7 @@ use Rattle.tx_picture.specs.declared.births.Birth.{Birth}
 use Rattle.tx_picture.specs.declared.lives.Life.{Life}
 use Rattle.tx_picture.specs.declared.ties.Tie.{Tie}
 use Rattle.tx_picture.specs.declared.ties.Tie.TheVariants.{Child}
-use Rattle.tx_plain.specs.Written.{NameAt}
+use Rattle.tx_translate.specs.Written.{NameAt}
 use Rattle.tx_script.specs.Report.{start_state}
 
 -- the process that a step of that number makes, if it is a fork that was accepted

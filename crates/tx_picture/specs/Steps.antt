@@ -18,9 +18,9 @@ use Rattle.tx_picture.specs.declared.elements.Shape.TheVariants.{Ellipse, Line}
 use Rattle.tx_picture.specs.declared.rows.Row.{Row}
 use Rattle.tx_picture.specs.declared.ties.Tie.{Tie}
 use Rattle.tx_picture.specs.declared.ties.Tie.TheVariants.{Holder, Child, Signal}
-use Rattle.tx_plain.specs.Lines.{spaced}
-use Rattle.tx_plain.specs.Words.{words_in}
-use Rattle.tx_text.specs.Replies.{named_reply_text}
+use Rattle.tx_translate.specs.Lines.{spaced}
+use Rattle.tx_translate.specs.Words.{words_in}
+use Rattle.tx_state_text.specs.Replies.{named_reply_text}
 
 -- the mark of a call's answer: an error is a number below zero
 abbrev pub answer_class : ℤ → List ℕ

@@ -3,14 +3,14 @@ ghost use Rattle.std.specs.Prelude.{◌≡◌, ◌++◌, IfErr, IfOk, OnOk, map}
 ghost use Rattle.tx_lines.specs.Lines.{FitsHeader};
 ghost use Rattle.tx_lines.specs.declared.faults.Fault.TheVariants.{NoMemory};
 ghost use Rattle.tx_picture.specs.Names.{birth_by, births_for, births_from, instance, is_birth};
-ghost use Rattle.tx_plain.specs.Written.{name_at};
+ghost use Rattle.tx_translate.specs.Written.{name_at};
 
 use crate::ties::{Tie, tie_of};
 use std::alloc::{AllocError, Global};
 use tx_base::{Pid, Reply, Step};
 use tx_lines::{Fault, Schedule};
-use tx_plain::Named;
 use tx_script::make_all;
+use tx_translate::Named;
 
 /// A process that a fork makes.
 #[derive(Clone, Copy)]

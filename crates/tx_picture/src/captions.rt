@@ -6,14 +6,14 @@ ghost use Rattle.tx_lines.specs.Lines.{FitsHeader};
 ghost use Rattle.tx_lines.specs.declared.faults.Fault.TheVariants.{NoMemory};
 ghost use Rattle.tx_picture.specs.Captions.{captioned_as, captioned_in, instance_of, is_anew, line_of, name_of, short};
 ghost use Rattle.tx_picture.specs.Names.{is_life};
-ghost use Rattle.tx_plain.specs.Written.{notes_as};
+ghost use Rattle.tx_translate.specs.Written.{notes_as};
 
 use crate::births::{Birth, births_for, instance};
 use crate::lives::{Life, is_life, lives_of};
 use std::alloc::{AllocError, Global};
 use tx_base::Pid;
 use tx_lines::{Fault, Schedule};
-use tx_plain::Written;
+use tx_translate::Written;
 
 /// What is written beside rows and above columns.
 #[derive(Drop)]

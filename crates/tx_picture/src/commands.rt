@@ -9,7 +9,7 @@ ghost use Rattle.tx_picture.specs.Excerpts.{drawing_in};
 ghost use Rattle.tx_picture.specs.Grammars.{pictures};
 ghost use Rattle.tx_picture.specs.Pictures.{picture_of};
 ghost use Rattle.tx_picture.specs.WellFormed.{IsWellFormed};
-ghost use Rattle.tx_plain.specs.Written.{notes_as, notes_of};
+ghost use Rattle.tx_translate.specs.Written.{notes_as, notes_of};
 ghost use Rattle.tx_script.specs.Grammars.{AnswersText};
 
 use crate::captions::captions_of;
@@ -18,7 +18,7 @@ use crate::walk::draw;
 use crate::whole::picture_of;
 use std::alloc::Global;
 use tx_lines::{Fault, Schedule, Sink, Source, read_whole, write_whole};
-use tx_plain::{Written, read_schedule};
+use tx_translate::{Written, read_schedule};
 
 /// Reads the text of a schedule to its end, makes its steps, and writes the picture of an excerpt
 /// of them in SVG. Where the fault is not `Writer` nothing is written.

@@ -2,12 +2,12 @@
 ghost use Rattle.std.specs.Prelude.{◌≡◌, IfOk, OnOk, map};
 ghost use Rattle.std.specs.List.{list_any};
 ghost use Rattle.tx_picture.specs.Names.{is_life, life_of, lives_from, with_life};
-ghost use Rattle.tx_plain.specs.Written.{name_at};
+ghost use Rattle.tx_translate.specs.Written.{name_at};
 
 use crate::births::{Birth, instance};
 use std::alloc::{AllocError, Global};
 use tx_base::Pid;
-use tx_plain::Named;
+use tx_translate::Named;
 
 /// A process that a name is for.
 #[derive(Clone, Copy)]

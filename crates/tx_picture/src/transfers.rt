@@ -1,6 +1,6 @@
 //! What a step asks of a pipe, on a machine before it.
 ghost use Rattle.std.specs.Prelude.{◌≡◌};
-ghost use Rattle.tx_live.specs.Content.{view_of};
+ghost use Rattle.tx_content.specs.Content.{view_of};
 ghost use Rattle.tx_model.specs.View.{present};
 ghost use Rattle.tx_picture.specs.Drawings.{transfer_of};
 ghost use Rattle.tx_picture.specs.Transfers.{access_of, held_in, pipe_named};

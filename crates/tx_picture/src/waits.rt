@@ -1,7 +1,7 @@
 //! Who could end the wait of a refused step.
 ghost use Rattle.std.specs.Prelude.{◌≡◌, ◌≤◌, ◌++◌, IfOk, OnOk, option_map, string_bytes};
 ghost use Rattle.std.specs.List.{flat_map};
-ghost use Rattle.tx_live.specs.Content.{view_of};
+ghost use Rattle.tx_content.specs.Content.{view_of};
 ghost use Rattle.tx_picture.specs.Waits.{awaited, child_awaited, holding, listed, own_wait_text, wait_text, waits_of};
 
 use crate::columns::note;

@@ -4,7 +4,7 @@ ghost use Rattle.tx_base.specs.declared.steps.Accepted.{Accepted};
 ghost use Rattle.tx_core.specs.Runs.{IsAfter};
 ghost use Rattle.tx_lines.specs.Lines.{FitsHeader};
 ghost use Rattle.tx_lines.specs.declared.faults.Fault.TheVariants.{NoMemory};
-ghost use Rattle.tx_live.specs.Content.{view_of};
+ghost use Rattle.tx_content.specs.Content.{view_of};
 ghost use Rattle.tx_model.specs.Answer.{answer};
 ghost use Rattle.tx_model.specs.Schedules.{history_of, history_with};
 ghost use Rattle.tx_model.specs.State.{State};
@@ -23,9 +23,9 @@ use crate::transfers::transfer_of;
 use crate::waits::{awaited, note_waits};
 use std::alloc::{AllocError, Global};
 use tx_base::{Call, Pid, Reply, Step};
+use tx_content::Inverse;
 use tx_core::Machine;
 use tx_lines::{Fault, Header};
-use tx_live::Inverse;
 use tx_script::{boot, make_step};
 
 /// Makes the steps of a schedule, and notes what there is to draw of them.

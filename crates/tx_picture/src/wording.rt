@@ -3,8 +3,8 @@ ghost use Rattle.std.specs.Prelude.{◌≡◌, ◌≤◌, ◌++◌, [], IfOk, On
 ghost use Rattle.tx_picture.specs.Captions.{short};
 ghost use Rattle.tx_picture.specs.Sheets.{page_as};
 ghost use Rattle.tx_picture.specs.Steps.{joined, shown_words, step_words, whole_words};
-ghost use Rattle.tx_plain.specs.Lines.{spaced};
-ghost use Rattle.tx_plain.specs.Words.{words_in};
+ghost use Rattle.tx_translate.specs.Lines.{spaced};
+ghost use Rattle.tx_translate.specs.Words.{words_in};
 
 use crate::captions::put_short;
 use crate::rows::Row;
@@ -12,8 +12,8 @@ use crate::sheets::Sheet;
 use std::alloc::{AllocError, Global};
 use tx_base::Step;
 use tx_lines::{put, put_step};
-use tx_plain::split_word;
-use tx_text::put_named_reply;
+use tx_state_text::put_named_reply;
+use tx_translate::split_word;
 
 /// A text, of which long words are cut.
 #[derive(Drop)]

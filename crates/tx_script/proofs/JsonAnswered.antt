@@ -8,7 +8,7 @@ use Rattle.tx_lines.specs.Schedule.{FaultsBy, IsFaultOf}
 use Rattle.tx_lines.specs.Walks.{IsWalkFault}
 use Rattle.tx_lines.specs.declared.faults.Fault.{Fault}
 use Rattle.tx_lines.specs.declared.faults.Fault.TheVariants.{NotALine, NoLabel, TooLong, Reader, Writer, NoMemory}
-use Rattle.tx_plain.specs.Meant.{meant_of, IsOwnFault}
+use Rattle.tx_translate.specs.Meant.{meant_of, IsOwnFault}
 use Rattle.tx_script.specs.JsonTexts.{texts, IsFaultAs, Spelled}
 use Rattle.tx_script.specs.Grammars.{AnswersText}
 

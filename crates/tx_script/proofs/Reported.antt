@@ -6,9 +6,9 @@ use Rattle.tx_base.specs.declared.steps.Refusal.TheVariants.{NoMemory}
 use Rattle.tx_base.specs.declared.steps.Reply.{Reply}
 use Rattle.tx_base.specs.declared.steps.Reply.TheVariants.{Done, Ended, Committed, Aborted, Out, No}
 use Rattle.tx_base.specs.declared.steps.Step.{Step}
-use Rattle.tx_live.specs.Content.{view_of}
+use Rattle.tx_content.specs.Content.{view_of}
 use Rattle.tx_core.specs.Runs.{IsAfter}
-use Rattle.tx_live.specs.declared.content.Content.{Content}
+use Rattle.tx_content.specs.declared.content.Content.{Content}
 use Rattle.tx_model.specs.Answer.{answer, IsAccepted, Lawful}
 use Rattle.tx_model.specs.Schedules.{history_with, answers_of, history_of}
 use Rattle.tx_model.specs.State.{State}

@@ -9,7 +9,7 @@ use Rattle.tx_base.specs.declared.steps.Step.{Step}
 use Rattle.tx_journal.specs.Entries.{accepted_of, history_of}
 use Rattle.tx_journal.specs.Sessions.{IsAtEnd, SessionState, SameBoot, made_of, position_of, start_of}
 use Rattle.tx_journal.specs.declared.entry.Entry.{Entry}
-use Rattle.tx_live.specs.Content.{view_of}
+use Rattle.tx_content.specs.Content.{view_of}
 use Rattle.tx_model.specs.Answer.{IsAccepted, answer}
 use Rattle.tx_model.specs.Schedules.{history_with, history_of as history_after}
 use Rattle.tx_model.specs.State.{State, boot_state}

@@ -4,7 +4,7 @@ use Rattle.tx_script.specs.Grammars.{Grammar, AnswersText}
 use Rattle.tx_lines.specs.Schedule.{FaultsBy}
 use Rattle.tx_lines.specs.declared.faults.Fault.{Fault}
 use Rattle.tx_lines.specs.declared.faults.Fault.TheVariants.{NoMemory}
-use Rattle.tx_plain.specs.Meant.{meant_of, IsOwnFault}
+use Rattle.tx_translate.specs.Meant.{meant_of, IsOwnFault}
 
 -- where the only fault is want of memory
 pub answers_text : {A B : Type 0} (G : Grammar A) (text : List ℕ) (spelled : A) (result : Result (String B) Fault) → G.IsGood spelled → meant_of text ≡ G.text spelled

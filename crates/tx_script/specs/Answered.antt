@@ -5,7 +5,7 @@ use Rattle.tx_lines.specs.Ends.{Counts}
 use Rattle.tx_script.specs.Grammars.{Grammar}
 use Rattle.tx_lines.specs.Whole.{IsCalm}
 use Rattle.tx_lines.specs.declared.faults.Fault.{Fault}
-use Rattle.tx_plain.specs.Meant.{meant_of, IsOwnFault}
+use Rattle.tx_translate.specs.Meant.{meant_of, IsOwnFault}
 use Rattle.tx_lines.specs.declared.faults.Fault.TheVariants.{NotALine, NoLabel, TooLong, Reader, Writer, NoMemory}
 
 -- what was left to read spells that, or means it by another text, and is no longer than a text may be

@@ -14,7 +14,7 @@ use Rattle.tx_lines.specs.declared.read.command.Command.{Command}
 use Rattle.tx_lines.specs.declared.read.command.Command.TheVariants.{Back, Forward, Goto, State, Moved}
 use Rattle.tx_lines.specs.declared.read.header.Header.{Header}
 use Rattle.tx_lines.specs.Lists.{list_text}
-use Rattle.tx_text.specs.State.{state_text}
+use Rattle.tx_state_text.specs.State.{state_text}
 
 -- the first so many steps of a history, the newest first
 abbrev pub first_steps : ℕ → List Accepted → List Accepted

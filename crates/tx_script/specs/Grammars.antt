@@ -8,7 +8,7 @@ use Rattle.tx_lines.specs.Walks.{walk_text, IsWalk, IsWalkFault}
 use Rattle.tx_lines.specs.declared.faults.Fault.{Fault}
 use Rattle.tx_lines.specs.declared.read.command.Command.{Command}
 use Rattle.tx_lines.specs.declared.read.header.Header.{Header}
-use Rattle.tx_plain.specs.Meant.{meant_of, IsOwnFault}
+use Rattle.tx_translate.specs.Meant.{meant_of, IsOwnFault}
 
 -- what texts of a kind spell, and how; where a text that is none is at fault; and what answers a text
 pub record Grammar (A : Type 0) : Type 1 where

@@ -8,8 +8,8 @@ use Rattle.tx_model.specs.State.{State, boot_state}
 use Rattle.tx_model.specs.View.{View, view}
 use Rattle.tx_lines.specs.declared.read.header.Header.{Header}
 use Rattle.tx_lines.specs.Lines.{most_of}
-use Rattle.tx_text.specs.Replies.{reply_text}
-use Rattle.tx_text.specs.State.{state_text}
+use Rattle.tx_state_text.specs.Replies.{reply_text}
+use Rattle.tx_state_text.specs.State.{state_text}
 
 -- the state at the start
 abbrev pub start_state : Header → State

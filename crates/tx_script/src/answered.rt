@@ -4,7 +4,7 @@ ghost use Rattle.tx_base.specs.declared.steps.Accepted.{Accepted};
 ghost use Rattle.tx_core.specs.Runs.{IsAfter};
 ghost use Rattle.tx_lines.specs.Lines.{FitsHeader};
 ghost use Rattle.tx_lines.specs.declared.faults.Fault.TheVariants.{NoMemory};
-ghost use Rattle.tx_live.specs.Content.{view_of};
+ghost use Rattle.tx_content.specs.Content.{view_of};
 ghost use Rattle.tx_model.specs.Answer.{answer};
 ghost use Rattle.tx_model.specs.Schedules.{answers_of, history_of, history_with};
 ghost use Rattle.tx_model.specs.State.{State};
@@ -13,9 +13,9 @@ ghost use Rattle.tx_script.specs.Report.{last_view, start_state};
 use crate::machines::boot;
 use std::alloc::Global;
 use tx_base::{Reply, Step};
+use tx_content::Inverse;
 use tx_core::Machine;
 use tx_lines::{Fault, Schedule};
-use tx_live::Inverse;
 
 /// What the steps of a schedule are answered, and the machine that they leave.
 #[derive(Drop)]

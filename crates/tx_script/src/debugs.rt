@@ -8,7 +8,7 @@ use crate::commands::answer_walk;
 use crate::forms::Form;
 use std::alloc::Global;
 use tx_lines::{Fault, Sink, Source, read_whole, write_whole};
-use tx_plain::read_walk;
+use tx_translate::read_walk;
 
 /// Reads the text of a schedule, the line `debug` and commands to its end, makes the steps, and
 /// writes what the commands answer: each is about the history of the schedule and the position

@@ -33,5 +33,5 @@ pub use replays::{replay, replay_text};
 pub use reports::report;
 pub use responses::{Response, put_response};
 pub use tx_lines::{Fault, Flow, OverRead, OverWrite, Program, Sink, Source};
-pub use tx_plain::read_program;
+pub use tx_translate::read_program;
 pub use walks::walk;

@@ -2,7 +2,7 @@
 ghost use Rattle.std.specs.Prelude.{◌≡◌, IfErr, IfOk};
 ghost use Rattle.tx_lines.specs.Lines.{FitsHeader};
 ghost use Rattle.tx_lines.specs.declared.faults.Fault.TheVariants.{NoMemory};
-ghost use Rattle.tx_live.specs.Content.{view_of};
+ghost use Rattle.tx_content.specs.Content.{view_of};
 ghost use Rattle.tx_script.specs.Report.{start_of};
 
 use std::alloc::Global;

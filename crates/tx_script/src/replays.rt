@@ -7,7 +7,7 @@ ghost use Rattle.tx_script.specs.Grammars.{schedules, AnswersText};
 use crate::reports::report;
 use std::alloc::Global;
 use tx_lines::{Fault, Sink, Source, read_whole, write_whole};
-use tx_plain::read_schedule;
+use tx_translate::read_schedule;
 
 /// Reads the text of a schedule to its end, runs it, and writes the report. Nothing is written
 /// where the fault is another one than `Writer`.

@@ -12,11 +12,11 @@ use crate::answered::make_step;
 use crate::machines::boot;
 use std::alloc::{AllocError, Global};
 use tx_base::{ABORTED_BY_CALL, Reply, Step};
+use tx_content::Inverse;
 use tx_core::Machine;
 use tx_journal::put_state;
 use tx_lines::{Fault, Numeral, Schedule, put, put_number};
-use tx_live::Inverse;
-use tx_text::put_reply;
+use tx_state_text::put_reply;
 
 /// The report of a schedule: a line for each step's reply, and the text of the state after the
 /// last one. The only fault is `NoMemory`.

@@ -4,7 +4,7 @@ use tx_base::{NoMemory, Reply, Step};
 use tx_core::Ran;
 use tx_journal::{Session, put_state};
 use tx_lines::{put, put_step};
-use tx_text::put_reply;
+use tx_state_text::put_reply;
 
 /// What a run tells.
 pub(crate) fn told(alloc: Global, ran: &Ran) -> Result<String, NoMemory> {

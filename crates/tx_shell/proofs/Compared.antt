@@ -12,7 +12,7 @@ use Rattle.tx_shell.proofs.Differed.{pairs_tell}
 use Rattle.tx_shell.proofs.Listed.{history_to}
 use Rattle.tx_shell.specs.Comparisons.{are_there, compared_at, IsAmong}
 use Rattle.tx_shell.specs.Differences.{all_differing, piece_differing, views_differing}
-use Rattle.tx_text.specs.Each.{each_text}
+use Rattle.tx_state_text.specs.Each.{each_text}
 
 -- what a session shows that went to a position
 pub shown_there : (first now : SessionState) (at : ℕ) → SameJournal now first → position_of now ≡ at → view (start_of now) (history_of (made_of now)) ≡ view_at (start_of first) (history_of first.entries) at

@@ -2,7 +2,7 @@
 use Rattle.std.proofs.Common.{◌≡◌, ℕ, false, List, [], ◌∷◌, Option, Some, None, IfSome, is_some, length, refl, take, sym, ap, ◌∙◌, arith}
 use Rattle.tx_shell.proofs.CutLines.{open_whole}
 use Rattle.tx_shell.specs.Cuts.{TakesLine}
-use Rattle.tx_plain.specs.MeantLines.{behind_by}
+use Rattle.tx_translate.specs.MeantLines.{behind_by}
 use Rattle.tx_shell.specs.Events.{Comes, End, Goes}
 use Rattle.tx_lines.specs.Schedule.{after_line, first_line}
 

@@ -6,7 +6,7 @@ use Rattle.std.proofs.Math.Seq.{take-append-add}
 use Rattle.std.proofs.KnownBytes.{Keeps-refl}
 use Rattle.std.specs.Io.KnownBytes.{Consumes, Keeps}
 use Rattle.tx_shell.specs.Cuts.{TakesLine, TakesPart}
-use Rattle.tx_plain.specs.MeantLines.{behind, behind_by}
+use Rattle.tx_translate.specs.MeantLines.{behind, behind_by}
 use Rattle.tx_shell.specs.declared.talks.taking.Next.TheVariants.{Ended, Nothing, Open}
 use Rattle.tx_lines.specs.Schedule.{after_line, first_line}
 

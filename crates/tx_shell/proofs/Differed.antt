@@ -12,7 +12,7 @@ use Rattle.tx_journal.specs.Rows.{lines_of, state_pieces}
 use Rattle.tx_journal.specs.declared.pieces.Piece.{Piece}
 use Rattle.tx_model.specs.View.{View}
 use Rattle.tx_shell.specs.Differences.{all_differing, differing, has_line, left_over, less_line, marked, piece_differing, views_differing}
-use Rattle.tx_text.specs.Each.{each_text}
+use Rattle.tx_state_text.specs.Each.{each_text}
 
 same_line : (line : List ℕ) → bytes_eq line line ≡ true
 same_line line = (bytes_eq-Decides line line).1 refl

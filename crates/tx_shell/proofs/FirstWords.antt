@@ -2,7 +2,7 @@
 use Rattle.std.proofs.Common.{◌≡◌, ℕ, ◌+◌, ◌-◌, List, [], ◌∷◌, ◌++◌, drop, length, ap, sym, ◌∙◌, append_assoc, arith}
 use Rattle.std.proofs.Math.Seq.{drop-append_seam}
 use Rattle.std.proofs.lemmas.List.{length-append}
-use Rattle.tx_plain.specs.Words.{columns_in, words_in}
+use Rattle.tx_translate.specs.Words.{columns_in, words_in}
 use Rattle.tx_shell.specs.Meanings.{after_word, first_or, first_word}
 
 -- what is dropped are the blanks and the word

@@ -4,7 +4,7 @@ use Rattle.std.proofs.lemmas.List.{append-nil}
 use Rattle.json.specs.Token.{Token}
 use Rattle.tx_json.specs.Each.{each_tokens}
 use Rattle.tx_waits.specs.Holders.{each_below}
-use Rattle.tx_text.specs.Each.{each_text}
+use Rattle.tx_state_text.specs.Each.{each_text}
 
 -- the texts of items, one item more
 each_suc : {A : Type 0} (text : A → List ℕ) (items : List A) (i : ℕ) (d : A) → i < length items → each_text text (take (suc i) items) ≡ each_text text (take i items) ++ text (get_or items i d)

@@ -1,7 +1,7 @@
 -- A line without the byte 13 at its end.
 use Rattle.std.proofs.Common.{◌≡◌, ◌≢◌, ℕ, List, [], ◌∷◌, ◌++◌, refl, ap, inl, inr}
 use Rattle.std.proofs.lemmas.Bool.Decides.{eqb_tells}
-use Rattle.tx_plain.specs.OwnLines.{without_return}
+use Rattle.tx_translate.specs.OwnLines.{without_return}
 
 pub before_end : (front : List ℕ) → without_return (front ++ 13 ∷ []) ≡ front
 before_end [] = refl

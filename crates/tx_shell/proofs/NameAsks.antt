@@ -2,7 +2,7 @@
 use Rattle.std.proofs.Common.{◌≡◌, ◌≢◌, ℕ, ◌≤◌, true, List, ◌∷◌, ◌++◌, codes}
 use Rattle.std.proofs.lemmas.List.{append_cancel_left}
 use Rattle.std.specs.Fmt.{decimal}
-use Rattle.tx_plain.specs.Names.{is_name}
+use Rattle.tx_translate.specs.Names.{is_name}
 use Rattle.tx_shell.specs.Answers.{ask_text, FitsAsk, IsOfName}
 use Rattle.tx_shell.specs.declared.lines.asks.Ask.TheVariants as asks
 use Rattle.tx_shell.specs.declared.lines.asks.Ask.{Ask}

@@ -6,7 +6,7 @@ use Rattle.std.proofs.lemmas.Str.{IsUtf8-from_ascii}
 use Rattle.std.proofs.lemmas.Str.Ascii.{IsAscii-from_all}
 use Rattle.std.specs.List.{All, list_all}
 use Rattle.std.specs.Str.{IsUtf8}
-use Rattle.tx_plain.specs.Names.{is_name, is_name_byte}
+use Rattle.tx_translate.specs.Names.{is_name, is_name_byte}
 
 byte_ascii : (byte : ℕ) → is_name_byte byte ≡ true → byte < 128
 byte_ascii byte is = grind (arith, nat_tests, is)

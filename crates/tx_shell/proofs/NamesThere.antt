@@ -9,7 +9,7 @@ use Rattle.tx_base.specs.declared.steps.Accepted.{Accepted}
 use Rattle.tx_journal.specs.Entries.{accepted_of, history_of}
 use Rattle.tx_journal.specs.Sessions.{SessionState}
 use Rattle.tx_journal.specs.declared.entry.Entry.{Entry}
-use Rattle.tx_plain.specs.Written.{NameAt}
+use Rattle.tx_translate.specs.Written.{NameAt}
 use Rattle.tx_shell.proofs.Listed.{oldest_first}
 use Rattle.tx_shell.specs.Names.{forked, forks, given_as, has_name, is_given_to, is_it, Names}
 use Rattle.tx_shell.specs.declared.names.Given.{Given}

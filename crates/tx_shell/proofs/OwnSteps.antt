@@ -13,13 +13,13 @@ use Rattle.tx_base.specs.declared.steps.Step.TheVariants as steps
 use Rattle.tx_lines.specs.Calls.{call_text}
 use Rattle.tx_lines.specs.Lines.{step_text, FitsStep}
 use Rattle.tx_lines.specs.declared.read.header.TextKind.TheVariants.{Schedule}
-use Rattle.tx_plain.specs.Laws.{StepsStay, StepStays}
-use Rattle.tx_plain.specs.Lines.{plain_line}
-use Rattle.tx_plain.specs.Names.{naming_in}
-use Rattle.tx_plain.specs.OwnLines.{without_return}
-use Rattle.tx_plain.specs.Words.{word_from}
-use Rattle.tx_plain.specs.declared.reading.Reading.TheVariants.{InWord}
-use Rattle.tx_plain.specs.declared.stage.Stage.TheVariants.{Within}
+use Rattle.tx_translate.specs.Laws.{StepsStay, StepStays}
+use Rattle.tx_translate.specs.Lines.{plain_line}
+use Rattle.tx_translate.specs.Names.{naming_in}
+use Rattle.tx_translate.specs.OwnLines.{without_return}
+use Rattle.tx_translate.specs.Words.{word_from}
+use Rattle.tx_translate.specs.declared.reading.Reading.TheVariants.{InWord}
+use Rattle.tx_translate.specs.declared.stage.Stage.TheVariants.{Within}
 use Rattle.tx_shell.specs.Meanings.{asks_of_step, first_word, meant_line, or_naming, spelled_line, third_line, usual_words}
 use Rattle.tx_shell.specs.Standings.{quit_line}
 use Rattle.tx_shell.specs.declared.lines.versions.TextVersion.{TextVersion}

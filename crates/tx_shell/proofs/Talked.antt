@@ -1,7 +1,7 @@
 -- A talk, exchange by exchange, and how it ends.
 use Rattle.std.proofs.Common.{◌≡◌, ◌≤◌, ℕ, ◌+◌, List, [], ◌∷◌, ◌++◌, length, take, Option, Some, None, Ok, Err, inl, inr, refl, sym, ap, subst, ◌∙◌, append_assoc}
 use Rattle.std.proofs.lemmas.List.{append-nil}
-use Rattle.tx_plain.specs.MeantLines.{behind}
+use Rattle.tx_translate.specs.MeantLines.{behind}
 use Rattle.tx_shell.specs.Events.{ComeFrom, Comes, Continues, End, Event, Failure, GoTo, Goes, IsTalk, Line, Logs, Talks, Text, Traffic, lines_among}
 use Rattle.tx_shell.specs.Standings.{Answers, IsQuit, Standing, Stops}
 use Rattle.tx_shell.specs.declared.talks.TalkFault.TheVariants.{NoMemory, Reader, TooMany, Writer}

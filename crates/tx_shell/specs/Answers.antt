@@ -18,8 +18,8 @@ use Rattle.tx_model.specs.Answer.{answer}
 use Rattle.tx_model.specs.Schedules.{history_with}
 use Rattle.tx_model.specs.State.{State, is_between}
 use Rattle.tx_model.specs.View.{present, view}
-use Rattle.tx_plain.specs.Names.{is_name}
-use Rattle.tx_plain.specs.Written.{NameAt}
+use Rattle.tx_translate.specs.Names.{is_name}
+use Rattle.tx_translate.specs.Written.{NameAt}
 use Rattle.tx_script.specs.Debug.{command_response, first_steps, position_after, responded_in, Responded}
 use Rattle.tx_shell.specs.Attempts.{attempt_of, awaited_child}
 use Rattle.tx_shell.specs.Changes.{shown_at, FindsLast, FindsNext}

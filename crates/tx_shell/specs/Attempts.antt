@@ -19,7 +19,7 @@ use Rattle.tx_shell.specs.Members.{why_members}
 use Rattle.tx_shell.specs.Names.{step_made_text, Names}
 use Rattle.tx_shell.specs.Reasons.{fact_lines}
 use Rattle.tx_shell.specs.declared.questions.attempts.Attempt.{Attempt}
-use Rattle.tx_text.specs.Replies.{named_reply_text}
+use Rattle.tx_state_text.specs.Replies.{named_reply_text}
 
 -- the child whose end a step waits for that would get that reply
 abbrev pub awaited_child : Step → Reply → Option ℕ

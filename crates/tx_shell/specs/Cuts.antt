@@ -1,7 +1,7 @@
 -- What a terminal takes of the bytes that its reader has left: line by line, and of a long one the front.
 use Rattle.std.specs.Prelude.{◌≡◌, ℕ, Bool, List, [], ◌++◌, take, is_some, Option, Some, None}
 use Rattle.tx_lines.specs.Schedule.{after_line, first_line}
-use Rattle.tx_plain.specs.MeantLines.{behind}
+use Rattle.tx_translate.specs.MeantLines.{behind}
 use Rattle.tx_shell.specs.declared.talks.taking.Next.{Next}
 use Rattle.tx_shell.specs.declared.talks.taking.Next.TheVariants.{Ended, Nothing, Open}
 

@@ -11,7 +11,7 @@ use Rattle.tx_journal.specs.Trials.{view_with}
 use Rattle.tx_model.specs.Membership.{is_live}
 use Rattle.tx_model.specs.State.{State}
 use Rattle.tx_model.specs.View.{View, view}
-use Rattle.tx_text.specs.Each.{each_text}
+use Rattle.tx_state_text.specs.Each.{each_text}
 
 -- whether one of the lines is that one
 abbrev pub has_line : List ℕ → List (List ℕ) → Bool

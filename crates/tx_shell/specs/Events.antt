@@ -1,6 +1,6 @@
 -- What comes and goes at a terminal, and which of it is a session.
 use Rattle.std.specs.Prelude.{◌≡◌, ◌≢◌, ◌⊎◌, ℕ, ◌+◌, ◌≤◌, Bool, List, [], ◌∷◌, ◌++◌, length, take, Option, Some, None, Result, Ok, Err, if◌then◌else◌}
-use Rattle.tx_plain.specs.MeantLines.{behind}
+use Rattle.tx_translate.specs.MeantLines.{behind}
 use Rattle.tx_shell.specs.Cuts.{front_line}
 use Rattle.tx_shell.specs.Standings.{Answers, IsQuit, Standing, Stops}
 use Rattle.tx_shell.specs.declared.talks.TalkFault.{TalkFault}

@@ -26,7 +26,7 @@ use Rattle.tx_shell.specs.declared.answers.answer.Answer.TheVariants as answers
 use Rattle.tx_shell.specs.declared.answers.answer.Answer.{Answer}
 use Rattle.tx_script.specs.declared.forms.Form.TheVariants.{Text, Json}
 use Rattle.tx_script.specs.declared.forms.Form.{Form}
-use Rattle.tx_text.specs.Replies.{named_reply_text}
+use Rattle.tx_state_text.specs.Replies.{named_reply_text}
 
 -- what is wrong with the line, between a mark and the line's end
 pub record TellsOf (line text : List ℕ) : Type 0 where

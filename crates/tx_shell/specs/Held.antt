@@ -12,7 +12,7 @@ use Rattle.tx_waits.specs.Holders.{desc_holders, holders}
 use Rattle.tx_shell.specs.Names.{Names}
 use Rattle.tx_shell.specs.declared.questions.held.DescHolders.{DescHolders}
 use Rattle.tx_shell.specs.declared.questions.held.PipeHolders.{PipeHolders}
-use Rattle.tx_text.specs.Each.{each_text}
+use Rattle.tx_state_text.specs.Each.{each_text}
 
 -- who has the sides of a pipe open
 pub record HeldPipe : Type 0 where

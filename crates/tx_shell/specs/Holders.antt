@@ -20,7 +20,7 @@ use Rattle.tx_shell.specs.Names.{behind_number, Names}
 use Rattle.tx_waits.specs.declared.holders.Sought.{Sought}
 use Rattle.tx_waits.specs.declared.holders.Sought.TheVariants.{Desc, End}
 use Rattle.tx_waits.specs.declared.kinds.Kind.TheVariants.{Pipes, Processes}
-use Rattle.tx_text.specs.Each.{each_text}
+use Rattle.tx_state_text.specs.Each.{each_text}
 
 -- the word for a side
 abbrev pub side_word : Side → List ℕ

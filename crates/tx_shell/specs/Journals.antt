@@ -9,7 +9,7 @@ use Rattle.tx_lines.specs.Schedule.{schedule_text}
 use Rattle.tx_script.specs.Debug.{position_text}
 use Rattle.tx_shell.specs.Origins.{header_in, Origin}
 use Rattle.tx_shell.specs.Places.{Place}
-use Rattle.tx_text.specs.Replies.{named_reply_text}
+use Rattle.tx_state_text.specs.Replies.{named_reply_text}
 
 -- the line of the position, where it is that one
 abbrev pub mark_at : ℕ → ℕ → List ℕ

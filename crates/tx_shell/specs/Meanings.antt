@@ -4,11 +4,11 @@ use Rattle.std.specs.Fmt.{decimal}
 use Rattle.std.specs.Str.{bytes_eq}
 use Rattle.tx_lines.specs.Schedule.{first_line}
 use Rattle.tx_lines.specs.declared.read.header.TextKind.TheVariants.{Schedule}
-use Rattle.tx_plain.specs.Lines.{plain_line}
-use Rattle.tx_plain.specs.Names.{naming_in}
-use Rattle.tx_plain.specs.OwnLines.{without_return}
-use Rattle.tx_plain.specs.Words.{columns_in, words_in}
-use Rattle.tx_plain.specs.declared.stage.Stage.TheVariants.{Within}
+use Rattle.tx_translate.specs.Lines.{plain_line}
+use Rattle.tx_translate.specs.Names.{naming_in}
+use Rattle.tx_translate.specs.OwnLines.{without_return}
+use Rattle.tx_translate.specs.Words.{columns_in, words_in}
+use Rattle.tx_translate.specs.declared.stage.Stage.TheVariants.{Within}
 use Rattle.tx_shell.specs.declared.lines.meanings.Words.{Words}
 use Rattle.tx_shell.specs.declared.lines.meanings.Words.TheVariants.{Lent, Made}
 use Rattle.tx_shell.specs.declared.lines.versions.TextVersion.{TextVersion}

@@ -11,7 +11,7 @@ use Rattle.tx_json.specs.Each.{upto}
 use Rattle.tx_json.specs.Members.{begin_object, count_member, end_object, list_member, word_member}
 use Rattle.tx_lines.specs.Lines.{step_text}
 use Rattle.tx_model.specs.Processes.{pid_of}
-use Rattle.tx_plain.specs.Written.{NameAt}
+use Rattle.tx_translate.specs.Written.{NameAt}
 use Rattle.tx_waits.specs.Kinds.{limit_of}
 use Rattle.tx_shell.specs.Places.{Place, place_of}
 use Rattle.tx_shell.specs.declared.lines.asks.Ask.{Ask}

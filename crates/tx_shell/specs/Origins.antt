@@ -8,8 +8,8 @@ use Rattle.tx_lines.specs.declared.read.header.TextKind.TheVariants as kinds
 use Rattle.tx_lines.specs.declared.read.header.Version.{Version}
 use Rattle.tx_lines.specs.declared.read.header.Version.TheVariants as versions
 use Rattle.tx_model.specs.State.{State, boot_state}
-use Rattle.tx_plain.specs.Meant.{meant_of}
-use Rattle.tx_plain.specs.Plain.{is_third}
+use Rattle.tx_translate.specs.Meant.{meant_of}
+use Rattle.tx_translate.specs.Plain.{is_third}
 use Rattle.tx_shell.specs.declared.lines.openings.Opening.{Opening}
 use Rattle.tx_shell.specs.declared.lines.versions.TextVersion.{TextVersion}
 use Rattle.tx_shell.specs.declared.lines.versions.TextVersion.TheVariants.{One, Two, Three}

@@ -7,7 +7,7 @@ use Rattle.tx_waits.specs.Kinds.{limit_of, object_in, word_of}
 use Rattle.tx_shell.specs.Names.{behind_number, kind_name, Names}
 use Rattle.tx_waits.specs.declared.kinds.Kind.{Kind}
 use Rattle.tx_waits.specs.declared.kinds.Kind.TheVariants.{Processes, Descriptions, Pipes}
-use Rattle.tx_text.specs.Each.{upto}
+use Rattle.tx_state_text.specs.Each.{upto}
 
 -- the number of an object, and after that of a process its name
 abbrev pub number_said : Names → Kind → ℕ → List ℕ

@@ -24,8 +24,8 @@ use Rattle.tx_waits.specs.declared.kinds.Kind.TheVariants.{Pipes, Processes}
 use Rattle.tx_shell.specs.declared.questions.reasons.Reason.{Reason}
 use Rattle.tx_step.specs.TwoAnswers.{two_answers}
 use Rattle.tx_step.specs.declared.differing.TwoAnswers.{TwoAnswers}
-use Rattle.tx_text.specs.Each.{each_text, upto}
-use Rattle.tx_text.specs.Replies.{error_name, spaced_name}
+use Rattle.tx_state_text.specs.Each.{each_text, upto}
+use Rattle.tx_state_text.specs.Replies.{error_name, spaced_name}
 
 -- of a word that is explained: a page that begins with it. Of another one: that it is none, and where the words are
 pub record HelpsOn (word text : List ℕ) : Type 0 where

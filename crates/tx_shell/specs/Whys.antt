@@ -11,7 +11,7 @@ use Rattle.tx_shell.specs.Attempts.{attempt_text}
 use Rattle.tx_shell.specs.Names.{step_made_text, Names}
 use Rattle.tx_shell.specs.Reasons.{fact_lines, HelpsOn}
 use Rattle.tx_shell.specs.declared.questions.attempts.Attempt.{Attempt}
-use Rattle.tx_text.specs.Replies.{named_reply_text}
+use Rattle.tx_state_text.specs.Replies.{named_reply_text}
 
 module _ (names : Names) (S : State) (h : List Accepted) (step : Step) (attempt : Option Attempt) where
   -- of a step that is refused: the facts, the last refused step of the child that it waits for, and

@@ -11,7 +11,7 @@
 //! its contract says the order.
 //!
 //! A line that spells a step means itself, and is read at once (tx_lines). Any other line of
-//! version 3 means what it means in a text (`meanings.rt`, over tx_plain); then it is read as a
+//! version 3 means what it means in a text (`meanings.rt`, over tx_translate); then it is read as a
 //! step, else as what a session can be asked (`asks.rt`).
 //!
 //! # Questions

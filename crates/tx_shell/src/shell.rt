@@ -18,8 +18,8 @@ use std::alloc::Global;
 use tx_base::{Call, NoMemory, Pid, Reply, Step};
 use tx_journal::Session;
 use tx_lines::read_step_into;
-use tx_plain::{Room, second_stays_itself};
 use tx_script::Form;
+use tx_translate::{Room, second_stays_itself};
 
 /// A session at a terminal, the form of its answers, and the version of its lines.
 #[derive(Drop)]

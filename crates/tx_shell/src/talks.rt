@@ -11,7 +11,7 @@ use crate::talks::terminal::{Got, Terminal};
 use std::alloc::Global;
 use thiserror::Error;
 use tx_base::NoMemory;
-use tx_plain::Room;
+use tx_translate::Room;
 
 /// How many lines a session may have.
 const LINES: u64 = 4_294_967_296;

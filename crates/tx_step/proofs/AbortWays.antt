@@ -6,9 +6,9 @@ use Rattle.tx_model.specs.ObjectFacts.{same_is}
 use Rattle.tx_step.proofs.Refusals.{between}
 use Rattle.tx_step.specs.InWay.{IsOfMember, starter_in}
 use Rattle.tx_base.specs.SlotFacts.{slot_there}
-use Rattle.tx_live.specs.Content.{now_of, IsShaped}
-use Rattle.tx_live.specs.Insides.{IsFootprint}
-use Rattle.tx_live.specs.declared.content.Content.{Content}
+use Rattle.tx_content.specs.Content.{now_of, IsShaped}
+use Rattle.tx_content.specs.Insides.{IsFootprint}
+use Rattle.tx_content.specs.declared.content.Content.{Content}
 use Rattle.tx_model.specs.Events.{Note, effect, objects}
 use Rattle.tx_model.specs.History.{event_footprint, targets}
 use Rattle.tx_model.specs.Membership.{is_live, is_of}

@@ -11,11 +11,11 @@ use Rattle.tx_base.specs.declared.steps.Step.TheVariants.{Call as Calls, Deliver
 use Rattle.tx_step.specs.Contents.{IsContent}
 use Rattle.tx_step.specs.declared.roles.StepRole.TheVariants as the
 use Rattle.tx_laws.specs.TwoStates.{states_view}
-use Rattle.tx_live.specs.Content.{content_of, txn_of, view_of}
-use Rattle.tx_live.specs.Made.{IsMade}
-use Rattle.tx_live.specs.declared.content.BoxedTxn.{BoxedTxn}
-use Rattle.tx_live.specs.declared.content.Content.{Content}
-use Rattle.tx_live.specs.declared.inverse.Inverse.{Inverse}
+use Rattle.tx_content.specs.Content.{content_of, txn_of, view_of}
+use Rattle.tx_content.specs.Made.{IsMade}
+use Rattle.tx_content.specs.declared.content.BoxedTxn.{BoxedTxn}
+use Rattle.tx_content.specs.declared.content.Content.{Content}
+use Rattle.tx_content.specs.declared.inverse.Inverse.{Inverse}
 use Rattle.tx_model.specs.Answer.{answer}
 use Rattle.tx_model.specs.Events.{Note, process_of}
 use Rattle.tx_model.specs.Membership.{Kind, Ordinary, Forking, Beginning, Leaving, Aborting, Role, Outside, Within, Commits, Aborts, Table, event_in, is_live, is_of, kind_event, others_open, says_ended}

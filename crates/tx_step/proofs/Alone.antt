@@ -12,11 +12,11 @@ use Rattle.tx_base.specs.declared.steps.Step.TheVariants.{Call as Calls, Deliver
 use Rattle.tx_step.specs.Contents.{IsContent}
 use Rattle.tx_step.specs.declared.roles.StepRole.TheVariants as the
 use Rattle.tx_laws.specs.TwoStates.{is_owner, states_view}
-use Rattle.tx_live.specs.Begins.{IsAlone}
-use Rattle.tx_live.specs.Content.{owner_at, view_of}
-use Rattle.tx_live.specs.Made.{IsMade}
-use Rattle.tx_live.specs.declared.content.Content.{Content}
-use Rattle.tx_live.specs.declared.inverse.Inverse.{Inverse}
+use Rattle.tx_content.specs.Begins.{IsAlone}
+use Rattle.tx_content.specs.Content.{owner_at, view_of}
+use Rattle.tx_content.specs.Made.{IsMade}
+use Rattle.tx_content.specs.declared.content.Content.{Content}
+use Rattle.tx_content.specs.declared.inverse.Inverse.{Inverse}
 use Rattle.tx_model.specs.Answer.{answer, IsAccepted}
 use Rattle.tx_model.specs.Events.{Note, effect, objects, reply_of}
 use Rattle.tx_model.specs.History.{event_footprint, targets}

@@ -6,9 +6,9 @@ use Rattle.tx_model.specs.ObjectFacts.{has_left}
 use Rattle.tx_step.specs.Contents.{IsContent}
 use Rattle.tx_laws.specs.Footprints.{is_shared}
 use Rattle.tx_laws.specs.TwoStates.{is_owner, states_view}
-use Rattle.tx_live.specs.Content.{content_of, now_of, owner_at, view_of}
-use Rattle.tx_live.specs.Insides.{IsFootprint, IsFree}
-use Rattle.tx_live.specs.declared.content.Content.{Content}
+use Rattle.tx_content.specs.Content.{content_of, now_of, owner_at, view_of}
+use Rattle.tx_content.specs.Insides.{IsFootprint, IsFree}
+use Rattle.tx_content.specs.declared.content.Content.{Content}
 use Rattle.tx_model.specs.Events.{Event, Commit, actor, effect, objects}
 use Rattle.tx_model.specs.History.{event_footprint, targets}
 use Rattle.tx_model.specs.Membership.{is_of}

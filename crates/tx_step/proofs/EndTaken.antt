@@ -14,13 +14,13 @@ use Rattle.tx_kernel.specs.declared.events.Act.{Act}
 use Rattle.tx_laws.specs.Fits.{Fits}
 use Rattle.tx_laws.specs.TwoStates.{made}
 use Rattle.tx_laws.specs.WellFormed.{HasGoodNumbers, IsHeldSending, IsWellFormed}
-use Rattle.tx_live.specs.Commits.{missed_of, AreAnswered}
-use Rattle.tx_live.specs.Content.{now_of, view_of}
-use Rattle.tx_live.specs.HeldPosts.{HaveSignals, IsEnd}
-use Rattle.tx_live.specs.Insides.{inside_in}
-use Rattle.tx_live.specs.Made.{IsMade, IsUnowned}
-use Rattle.tx_live.specs.declared.content.Content.{Content}
-use Rattle.tx_live.specs.declared.inverse.Inverse.{Inverse}
+use Rattle.tx_content.specs.Commits.{missed_of, AreAnswered}
+use Rattle.tx_content.specs.Content.{now_of, view_of}
+use Rattle.tx_content.specs.HeldPosts.{HaveSignals, IsEnd}
+use Rattle.tx_content.specs.Insides.{inside_in}
+use Rattle.tx_content.specs.Made.{IsMade, IsUnowned}
+use Rattle.tx_content.specs.declared.content.Content.{Content}
+use Rattle.tx_content.specs.declared.inverse.Inverse.{Inverse}
 use Rattle.tx_model.specs.Answer.{is_running}
 use Rattle.tx_model.specs.Words.{has_bad_number}
 use Rattle.tx_model.specs.Effects.{Inside}

@@ -5,8 +5,8 @@ use Rattle.tx_base.specs.Slots.{slot_at}
 use Rattle.tx_base.specs.declared.marks.Mark.{Mark}
 use Rattle.tx_base.specs.declared.names.Pid.{Pid}
 use Rattle.tx_laws.specs.TwoStates.{states_view}
-use Rattle.tx_live.specs.Content.{view_of}
-use Rattle.tx_live.specs.declared.content.Content.{Content}
+use Rattle.tx_content.specs.Content.{view_of}
+use Rattle.tx_content.specs.declared.content.Content.{Content}
 use Rattle.tx_model.specs.Events.{Event}
 use Rattle.tx_model.specs.Membership.{is_live}
 use Rattle.tx_model.specs.View.{in_way, least, starter_in_way}

@@ -11,10 +11,10 @@ use Rattle.tx_step.specs.Faces.{is_target, starter_differs}
 use Rattle.tx_step.specs.InWay.{IsOfMember, gives_two_answers, two_answers_in, least_target, starter_in}
 use Rattle.tx_laws.specs.Footprints.{is_shared}
 use Rattle.tx_laws.specs.TwoStates.{is_owner, states_view}
-use Rattle.tx_live.specs.Content.{content_of, now_of, owner_at, own_held, txn_of, view_of}
-use Rattle.tx_live.specs.Insides.{IsFootprint}
-use Rattle.tx_live.specs.declared.content.BoxedTxn.{BoxedTxn}
-use Rattle.tx_live.specs.declared.content.Content.{Content}
+use Rattle.tx_content.specs.Content.{content_of, now_of, owner_at, own_held, txn_of, view_of}
+use Rattle.tx_content.specs.Insides.{IsFootprint}
+use Rattle.tx_content.specs.declared.content.BoxedTxn.{BoxedTxn}
+use Rattle.tx_content.specs.declared.content.Content.{Content}
 use Rattle.tx_model.specs.Events.{Event, actor, effect}
 use Rattle.tx_model.specs.History.{event_footprint}
 use Rattle.tx_model.specs.Membership.{is_live, is_of}

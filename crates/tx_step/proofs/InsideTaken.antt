@@ -11,13 +11,13 @@ use Rattle.tx_kernel.specs.Acts.{choice_of, event_of}
 use Rattle.tx_kernel.specs.declared.events.Act.{Act}
 use Rattle.tx_kernel.specs.declared.planned.Outcome.{Outcome}
 use Rattle.tx_laws.specs.Fits.{Fits}
-use Rattle.tx_live.specs.Content.{now_of, view_of}
-use Rattle.tx_live.specs.Insides.{inside_in, IsFootprint, IsFree}
-use Rattle.tx_live.specs.Made.{Answers, IsMade, RefusesStep}
-use Rattle.tx_live.specs.Progresses.{part_of, HasChild}
-use Rattle.tx_live.specs.declared.content.Content.{Content}
-use Rattle.tx_live.specs.declared.inverse.Inverse.{Inverse}
-use Rattle.tx_live.specs.declared.marking.Progress.{Progress}
+use Rattle.tx_content.specs.Content.{now_of, view_of}
+use Rattle.tx_content.specs.Insides.{inside_in, IsFootprint, IsFree}
+use Rattle.tx_content.specs.Made.{Answers, IsMade, RefusesStep}
+use Rattle.tx_content.specs.Progresses.{part_of, HasChild}
+use Rattle.tx_content.specs.declared.content.Content.{Content}
+use Rattle.tx_content.specs.declared.inverse.Inverse.{Inverse}
+use Rattle.tx_content.specs.declared.marking.Progress.{Progress}
 use Rattle.tx_model.specs.Words.{has_bad_number}
 use Rattle.tx_model.specs.Effects.{Inside}
 use Rattle.tx_model.specs.Answer.{is_bad_choice}

@@ -7,9 +7,9 @@ use Rattle.tx_change.specs.States.{changed_by}
 use Rattle.tx_laws.specs.LawsOfEvents.{WritesStayInObjects}
 use Rattle.tx_laws.specs.LawsOfTwoStates.{PresentIsNow}
 use Rattle.tx_laws.specs.TwoStates.{states_view}
-use Rattle.tx_live.specs.Content.{content_of, now_of, owner_at, txn_of, view_of}
-use Rattle.tx_live.specs.declared.content.BoxedTxn.{BoxedTxn}
-use Rattle.tx_live.specs.declared.content.Content.{Content}
+use Rattle.tx_content.specs.Content.{content_of, now_of, owner_at, txn_of, view_of}
+use Rattle.tx_content.specs.declared.content.BoxedTxn.{BoxedTxn}
+use Rattle.tx_content.specs.declared.content.Content.{Content}
 use Rattle.tx_model.specs.Effects.{send_answers}
 use Rattle.tx_model.specs.Events.{Event, actor, effect, objects}
 use Rattle.tx_model.specs.History.{event_footprint, just, targets}

@@ -17,9 +17,9 @@ use Rattle.tx_step.specs.declared.roles.StepRole.TheVariants as step
 use Rattle.tx_kernel.specs.Plans.{sending_of}
 use Rattle.tx_laws.specs.Endings.{end_reply, DeliveryIsTold, ExitIsTold, OtherCallIsTold}
 use Rattle.tx_laws.specs.LawsOfTwoStates.{PresentIsNow}
-use Rattle.tx_live.specs.Content.{held_of, view_of, IsShaped}
-use Rattle.tx_live.specs.Made.{IsRunning}
-use Rattle.tx_live.specs.declared.content.Content.{Content}
+use Rattle.tx_content.specs.Content.{held_of, view_of, IsShaped}
+use Rattle.tx_content.specs.Made.{IsRunning}
+use Rattle.tx_content.specs.declared.content.Content.{Content}
 use Rattle.tx_model.specs.Deliveries.{delivered_value, ends_by}
 use Rattle.tx_model.specs.Membership.{Leaving, Ordinary, Outside, Role, Table, inside_by, member_end, others_open}
 use Rattle.tx_model.specs.View.{role_on}

@@ -14,9 +14,9 @@ use Rattle.tx_step.specs.Ways.{IsOwnActor}
 use Rattle.tx_kernel.specs.Actors.{CountsHeld, inside_of, me_of}
 use Rattle.tx_kernel.specs.Refusals.{IsMade}
 use Rattle.tx_kernel.specs.declared.actor.Actor.{Actor}
-use Rattle.tx_live.specs.Content.{held_of, now_of}
-use Rattle.tx_live.specs.Made.{RefusesStep}
-use Rattle.tx_live.specs.declared.content.Content.{Content}
+use Rattle.tx_content.specs.Content.{held_of, now_of}
+use Rattle.tx_content.specs.Made.{RefusesStep}
+use Rattle.tx_content.specs.declared.content.Content.{Content}
 use Rattle.tx_model.specs.Answer.{IsAccepted}
 use Rattle.tx_model.specs.Words.{call_effect, delivery_effect}
 use Rattle.tx_model.specs.Effects.{Effect, Inside, concluding_reply, idle, send_answers}

@@ -8,13 +8,13 @@ use Rattle.tx_base.specs.declared.steps.Call.TheVariants as call
 use Rattle.tx_base.specs.declared.steps.Reply.{Reply}
 use Rattle.tx_step.specs.Contents.{IsContent}
 use Rattle.tx_laws.specs.TwoStates.{states_view}
-use Rattle.tx_live.specs.Content.{txn_of, view_of, IsTxn}
-use Rattle.tx_live.specs.Insides.{inside_in}
-use Rattle.tx_live.specs.Progresses.{part_of, HasChild}
-use Rattle.tx_live.specs.declared.content.BoxedTxn.{BoxedTxn}
-use Rattle.tx_live.specs.declared.content.Content.{Content}
-use Rattle.tx_live.specs.declared.marking.Progress.{Progress as TheProgress}
-use Rattle.tx_live.specs.declared.marking.Progress.TheVariants as the
+use Rattle.tx_content.specs.Content.{txn_of, view_of, IsTxn}
+use Rattle.tx_content.specs.Insides.{inside_in}
+use Rattle.tx_content.specs.Progresses.{part_of, HasChild}
+use Rattle.tx_content.specs.declared.content.BoxedTxn.{BoxedTxn}
+use Rattle.tx_content.specs.declared.content.Content.{Content}
+use Rattle.tx_content.specs.declared.marking.Progress.{Progress as TheProgress}
+use Rattle.tx_content.specs.declared.marking.Progress.TheVariants as the
 use Rattle.tx_model.specs.Answer.{Choice, ChoosesProcess, is_bad_choice}
 use Rattle.tx_model.specs.Words.{chosen_in, has_bad_number, kind_of, kind_role, member_end_role, ordinary_role}
 use Rattle.tx_model.specs.Membership.{Table, Within, Forks, Kind, Ordinary, Forking, Beginning, Leaving, Aborting, inside_by, is_live, is_of, others_open, says_ended}

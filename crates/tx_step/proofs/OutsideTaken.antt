@@ -13,10 +13,10 @@ use Rattle.tx_kernel.specs.Plans.{reply_of as reply_with}
 use Rattle.tx_kernel.specs.declared.events.Act.{Act}
 use Rattle.tx_kernel.specs.declared.planned.Outcome.{Outcome}
 use Rattle.tx_kernel.specs.declared.planned.Outcome.TheVariants as outcome
-use Rattle.tx_live.specs.Content.{now_of, view_of}
-use Rattle.tx_live.specs.Made.{Answers, IsMade, IsUnowned, RefusesStep}
-use Rattle.tx_live.specs.declared.content.Content.{Content}
-use Rattle.tx_live.specs.declared.inverse.Inverse.{Inverse}
+use Rattle.tx_content.specs.Content.{now_of, view_of}
+use Rattle.tx_content.specs.Made.{Answers, IsMade, IsUnowned, RefusesStep}
+use Rattle.tx_content.specs.declared.content.Content.{Content}
+use Rattle.tx_content.specs.declared.inverse.Inverse.{Inverse}
 use Rattle.tx_model.specs.Answer.{IsAccepted, is_bad_choice}
 use Rattle.tx_model.specs.Events.{Event}
 use Rattle.tx_model.specs.Membership.{inside_by, Outside}

@@ -9,9 +9,9 @@ use Rattle.tx_step.proofs.RolesTold.{inside_marked}
 use Rattle.tx_kernel.specs.Actors.{CountsHeld, inside_of, transaction_of}
 use Rattle.tx_kernel.specs.Plans.{sending_of}
 use Rattle.tx_kernel.specs.declared.inside.Inside.{Inside}
-use Rattle.tx_live.specs.Content.{content_of, held_in, held_of, txn_of, IsShaped, IsTxn}
-use Rattle.tx_live.specs.declared.content.BoxedTxn.{BoxedTxn}
-use Rattle.tx_live.specs.declared.content.Content.{Content}
+use Rattle.tx_content.specs.Content.{content_of, held_in, held_of, txn_of, IsShaped, IsTxn}
+use Rattle.tx_content.specs.declared.content.BoxedTxn.{BoxedTxn}
+use Rattle.tx_content.specs.declared.content.Content.{Content}
 use Rattle.tx_model.specs.Effects.{Inside as TheInside}
 use Rattle.tx_model.specs.Membership.{inside_by}
 use Rattle.tx_model.specs.Book.{member_sends}

@@ -15,10 +15,10 @@ use Rattle.tx_step.specs.Ways.{ConcernsItself}
 use Rattle.tx_step.specs.declared.roles.StepRole.{StepRole}
 use Rattle.tx_step.specs.declared.roles.StepRole.TheVariants as step
 use Rattle.tx_laws.specs.TwoStates.{states_view}
-use Rattle.tx_live.specs.Content.{content_of, now_of, view_of}
-use Rattle.tx_live.specs.Insides.{IsFootprint}
-use Rattle.tx_live.specs.Made.{IsRunning}
-use Rattle.tx_live.specs.declared.content.Content.{Content}
+use Rattle.tx_content.specs.Content.{content_of, now_of, view_of}
+use Rattle.tx_content.specs.Insides.{IsFootprint}
+use Rattle.tx_content.specs.Made.{IsRunning}
+use Rattle.tx_content.specs.declared.content.Content.{Content}
 use Rattle.tx_model.specs.Events.{Event, effect}
 use Rattle.tx_model.specs.Footprints.{call_row_at, footprint}
 use Rattle.tx_model.specs.Membership.{Table, event_in, inside_by, kind_event}

@@ -19,9 +19,9 @@ use Rattle.tx_kernel.specs.Refusals.{number_refusal}
 use Rattle.tx_kernel.specs.declared.actor.Actor.{Actor}
 use Rattle.tx_laws.specs.TwoStates.{states_view}
 use Rattle.tx_base.specs.SlotFacts.{slot_there}
-use Rattle.tx_live.specs.Content.{content_of, held_of, txn_of, view_of, IsShaped}
-use Rattle.tx_live.specs.declared.content.BoxedTxn.{BoxedTxn}
-use Rattle.tx_live.specs.declared.content.Content.{Content}
+use Rattle.tx_content.specs.Content.{content_of, held_of, txn_of, view_of, IsShaped}
+use Rattle.tx_content.specs.declared.content.BoxedTxn.{BoxedTxn}
+use Rattle.tx_content.specs.declared.content.Content.{Content}
 use Rattle.tx_model.specs.Answer.{delivers_kill, is_doomed_at, is_parked, is_running, is_there}
 use Rattle.tx_model.specs.Words.{busy, has_bad_number, has_number_in_use, is_stopped_by_kill}
 use Rattle.tx_model.specs.Events.{effect_at, page_of_step}

@@ -16,10 +16,10 @@ use Rattle.tx_step.specs.Late.{IsWhyNot}
 use Rattle.tx_step.specs.declared.roles.StepRole.{StepRole}
 use Rattle.tx_laws.specs.Footprints.{is_abort}
 use Rattle.tx_laws.specs.TwoStates.{states_view}
-use Rattle.tx_live.specs.Content.{now_of, view_of}
-use Rattle.tx_live.specs.Made.{IsRunning}
-use Rattle.tx_live.specs.declared.content.Content.{Content}
-use Rattle.tx_live.specs.declared.inverse.Inverse.{Inverse}
+use Rattle.tx_content.specs.Content.{now_of, view_of}
+use Rattle.tx_content.specs.Made.{IsRunning}
+use Rattle.tx_content.specs.declared.content.Content.{Content}
+use Rattle.tx_content.specs.declared.inverse.Inverse.{Inverse}
 use Rattle.tx_model.specs.Answer.{answer, is_doomed_at, is_parked, is_running, is_there, plain_reply, refusal, IsAccepted}
 use Rattle.tx_model.specs.Words.{busy, has_bad_number, has_number_in_use, is_stopped_by_kill, unless_refused, called_by_status, kind_role}
 use Rattle.tx_model.specs.Events.{Event, process_of, reply_of}

@@ -12,10 +12,10 @@ use Rattle.tx_step.proofs.WholeContents.{slot_seen}
 use Rattle.tx_laws.specs.Endings.{end_reply, DeliveryIsTold, ExitIsTold, OtherCallIsTold}
 use Rattle.tx_laws.specs.LawsOfTwoStates.{PresentIsNow}
 use Rattle.tx_laws.specs.TwoStates.{states_view}
-use Rattle.tx_live.specs.Content.{view_of, IsShaped, IsTxn}
-use Rattle.tx_live.specs.Made.{IsRunning}
-use Rattle.tx_live.specs.declared.content.BoxedTxn.{BoxedTxn}
-use Rattle.tx_live.specs.declared.content.Content.{Content}
+use Rattle.tx_content.specs.Content.{view_of, IsShaped, IsTxn}
+use Rattle.tx_content.specs.Made.{IsRunning}
+use Rattle.tx_content.specs.declared.content.BoxedTxn.{BoxedTxn}
+use Rattle.tx_content.specs.declared.content.Content.{Content}
 use Rattle.tx_model.specs.Deliveries.{delivered_value, ends_by}
 use Rattle.tx_model.specs.Membership.{Leaving, Outside, Ordinary, Table, inside_by, is_of, role}
 use Rattle.tx_model.specs.Words.{kind_of, kind_role}

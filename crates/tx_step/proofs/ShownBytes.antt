@@ -7,8 +7,8 @@ use Rattle.tx_change.specs.Laws.{HasPlaces}
 use Rattle.tx_kernel.specs.Plans.{memory_in}
 use Rattle.tx_kernel.specs.declared.planned.Outcome.TheVariants.{Out}
 use Rattle.tx_kernel.specs.declared.planned.Shown.{Shown}
-use Rattle.tx_live.specs.declared.content.Content.{Content}
-use Rattle.tx_live.specs.declared.inverse.Inverse.{Inverse}
+use Rattle.tx_content.specs.declared.content.Content.{Content}
+use Rattle.tx_content.specs.declared.inverse.Inverse.{Inverse}
 use Rattle.tx_model.specs.Memory.{Memory, bytes_from, loaded_byte}
 use Rattle.tx_model.specs.Words.{byte_in, byte_or_zero}
 use Rattle.tx_proc.specs.Parts.{process_in}

@@ -9,8 +9,8 @@ use Rattle.tx_step.specs.InWay.{IsOfMember, starter_in}
 use Rattle.tx_laws.specs.Fits.{HoldsFor}
 use Rattle.tx_laws.specs.Footprints.{is_abort}
 use Rattle.tx_laws.specs.LawsOfEvents.{HoldsForItsOwn}
-use Rattle.tx_live.specs.Content.{now_of}
-use Rattle.tx_live.specs.declared.content.Content.{Content}
+use Rattle.tx_content.specs.Content.{now_of}
+use Rattle.tx_content.specs.declared.content.Content.{Content}
 use Rattle.tx_model.specs.Events.{Event, Note, actor, process_of}
 use Rattle.tx_model.specs.Membership.{Table, Role, Outside, Within, Commits, Aborts, Kind, Ordinary, Forking, Beginning, Leaving, Aborting, event_in, kind_event, others_open, says_ended}
 use Rattle.tx_model.specs.Words.{called_by_status, kind_role, member_end_role, ordinary_role}

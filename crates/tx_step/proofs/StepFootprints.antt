@@ -7,10 +7,10 @@ use Rattle.tx_step.proofs.WholeContents.{now_seen}
 use Rattle.tx_laws.specs.Footprints.{FootprintIsOfEvent, is_abort, is_shared}
 use Rattle.tx_laws.specs.LawsOfTwoStates.{PresentIsNow}
 use Rattle.tx_laws.specs.TwoStates.{states_view}
-use Rattle.tx_live.specs.Content.{now_of, view_of, IsShaped}
-use Rattle.tx_live.specs.Insides.{IsFootprint}
-use Rattle.tx_live.specs.Made.{IsRunning}
-use Rattle.tx_live.specs.declared.content.Content.{Content}
+use Rattle.tx_content.specs.Content.{now_of, view_of, IsShaped}
+use Rattle.tx_content.specs.Insides.{IsFootprint}
+use Rattle.tx_content.specs.Made.{IsRunning}
+use Rattle.tx_content.specs.declared.content.Content.{Content}
 use Rattle.tx_model.specs.Answer.{is_running}
 use Rattle.tx_model.specs.Events.{process_of}
 use Rattle.tx_model.specs.Footprints.{footprint}

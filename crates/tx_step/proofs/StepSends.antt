@@ -22,8 +22,8 @@ use Rattle.tx_kernel.specs.Sends.{IsSentBy}
 use Rattle.tx_kernel.specs.declared.actor.Actor.{Actor}
 use Rattle.tx_kernel.specs.declared.planned.Sends.{Sends}
 use Rattle.tx_kernel.specs.declared.planned.Sends.TheVariants.{Nothing, AtOnce, AtCommit}
-use Rattle.tx_live.specs.Content.{held_of, now_of}
-use Rattle.tx_live.specs.declared.content.Content.{Content}
+use Rattle.tx_content.specs.Content.{held_of, now_of}
+use Rattle.tx_content.specs.declared.content.Content.{Content}
 use Rattle.tx_model.specs.Words.{call_effect, delivery_effect, before_sends, kind_of, kind_role}
 use Rattle.tx_model.specs.Effects.{Effect, Inside}
 use Rattle.tx_model.specs.Events.{Event, Do, effect}

@@ -20,12 +20,12 @@ use Rattle.tx_laws.specs.Sound.{IsSound}
 use Rattle.tx_laws.specs.TwoStates.{is_owner, states_view}
 use Rattle.tx_laws.specs.WellFormed.{IsWellFormed}
 use Rattle.tx_laws.specs.WellFormedTable.{IsWellFormedView}
-use Rattle.tx_live.specs.Content.{content_of, held_in, now_of, owner_at, txn_of, view_of}
-use Rattle.tx_live.specs.Inverses.{changes_of}
-use Rattle.tx_live.specs.Made.{AreLocal, IsMade, IsRunning}
-use Rattle.tx_live.specs.declared.content.BoxedTxn.{BoxedTxn}
-use Rattle.tx_live.specs.declared.content.Content.{Content}
-use Rattle.tx_live.specs.declared.inverse.Inverse.{Inverse}
+use Rattle.tx_content.specs.Content.{content_of, held_in, now_of, owner_at, txn_of, view_of}
+use Rattle.tx_content.specs.Inverses.{changes_of}
+use Rattle.tx_content.specs.Made.{AreLocal, IsMade, IsRunning}
+use Rattle.tx_content.specs.declared.content.BoxedTxn.{BoxedTxn}
+use Rattle.tx_content.specs.declared.content.Content.{Content}
+use Rattle.tx_content.specs.declared.inverse.Inverse.{Inverse}
 use Rattle.tx_model.specs.Answer.{answer, is_running, is_there, plain_reply, refusal, IsAccepted}
 use Rattle.tx_model.specs.Words.{busy, has_bad_number, unless_refused, processes_of, called_by_status}
 use Rattle.tx_model.specs.Events.{Event, actor, effect, objects, process_of}

@@ -9,12 +9,12 @@ use Rattle.tx_kernel.specs.Acts.{choice_of, event_of}
 use Rattle.tx_kernel.specs.declared.events.Act.{Act}
 use Rattle.tx_kernel.specs.declared.events.Act.TheVariants as act
 use Rattle.tx_laws.specs.TwoStates.{states_view}
-use Rattle.tx_live.specs.Content.{view_of}
-use Rattle.tx_live.specs.HeldPosts.{IsEnd}
-use Rattle.tx_live.specs.Progresses.{part_of}
-use Rattle.tx_live.specs.declared.content.Content.{Content}
-use Rattle.tx_live.specs.declared.marking.Progress.{Progress as TheProgress}
-use Rattle.tx_live.specs.declared.marking.Progress.TheVariants as the
+use Rattle.tx_content.specs.Content.{view_of}
+use Rattle.tx_content.specs.HeldPosts.{IsEnd}
+use Rattle.tx_content.specs.Progresses.{part_of}
+use Rattle.tx_content.specs.declared.content.Content.{Content}
+use Rattle.tx_content.specs.declared.marking.Progress.{Progress as TheProgress}
+use Rattle.tx_content.specs.declared.marking.Progress.TheVariants as the
 use Rattle.tx_model.specs.Effects.{Inside}
 use Rattle.tx_model.specs.Events.{Event, Do, actor, reply_of}
 use Rattle.tx_model.specs.Membership.{Table, Progress, Role, Outside, Within, Commits, Begins, Kind, Ordinary, Forking, Beginning, Leaving, Aborting, event_in, inside_by, kind_event, others_open, says_ended, step_event}

@@ -31,10 +31,10 @@ use Rattle.tx_kernel.specs.declared.actor.Actor.{Actor}
 use Rattle.tx_kernel.specs.declared.planned.Sends.{Sends}
 use Rattle.tx_laws.specs.Footprints.{is_abort}
 use Rattle.tx_laws.specs.TwoStates.{states_view}
-use Rattle.tx_live.specs.Content.{held_of, now_of, view_of}
-use Rattle.tx_live.specs.Insides.{IsFootprint}
-use Rattle.tx_live.specs.Made.{IsRunning}
-use Rattle.tx_live.specs.declared.content.Content.{Content}
+use Rattle.tx_content.specs.Content.{held_of, now_of, view_of}
+use Rattle.tx_content.specs.Insides.{IsFootprint}
+use Rattle.tx_content.specs.Made.{IsRunning}
+use Rattle.tx_content.specs.declared.content.Content.{Content}
 use Rattle.tx_model.specs.Words.{has_bad_number, call_effect, delivery_effect, called_by_status, kind_of}
 use Rattle.tx_model.specs.Effects.{Inside}
 use Rattle.tx_model.specs.Deliveries.{delivered_value, ends_by}

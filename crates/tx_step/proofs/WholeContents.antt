@@ -7,8 +7,8 @@ use Rattle.tx_step.specs.Contents.{ContentsAreWhole, IsContent}
 use Rattle.tx_laws.specs.Laws.{HeldKeepsForm}
 use Rattle.tx_laws.specs.LawsOfTwoStates.{PresentIsNow}
 use Rattle.tx_laws.specs.WellFormed.{IsHeldSending, IsWellFormed}
-use Rattle.tx_live.specs.Content.{content_of, now_of, view_of}
-use Rattle.tx_live.specs.declared.content.Content.{Content}
+use Rattle.tx_content.specs.Content.{content_of, now_of, view_of}
+use Rattle.tx_content.specs.declared.content.Content.{Content}
 use Rattle.tx_model.specs.History.{nobody}
 use Rattle.tx_model.specs.State.{State}
 use Rattle.tx_model.specs.View.{present}

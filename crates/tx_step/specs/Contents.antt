@@ -4,8 +4,8 @@ use Rattle.tx_base.specs.Slots.{slot_at}
 use Rattle.tx_kernel.specs.Actors.{IsWhole}
 use Rattle.tx_laws.specs.WellFormed.{IsWellFormed}
 use Rattle.tx_laws.specs.WellFormedTable.{IsWellFormedView}
-use Rattle.tx_live.specs.Content.{content_of, view_of, IsShaped}
-use Rattle.tx_live.specs.declared.content.Content.{Content}
+use Rattle.tx_content.specs.Content.{content_of, view_of, IsShaped}
+use Rattle.tx_content.specs.declared.content.Content.{Content}
 use Rattle.tx_model.specs.History.{Starters}
 use Rattle.tx_model.specs.State.{boot_state}
 use Rattle.tx_model.specs.View.{view}

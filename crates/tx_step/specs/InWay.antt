@@ -4,9 +4,9 @@ use Rattle.tx_base.specs.Slots.{slot_at}
 use Rattle.tx_base.specs.declared.marks.Mark.{Mark}
 use Rattle.tx_step.specs.Faces.{starter_differs}
 use Rattle.tx_laws.specs.TwoStates.{is_owner}
-use Rattle.tx_live.specs.Content.{now_of}
-use Rattle.tx_live.specs.declared.content.BoxedTxn.{BoxedTxn}
-use Rattle.tx_live.specs.declared.content.Content.{Content}
+use Rattle.tx_content.specs.Content.{now_of}
+use Rattle.tx_content.specs.declared.content.BoxedTxn.{BoxedTxn}
+use Rattle.tx_content.specs.declared.content.Content.{Content}
 use Rattle.tx_model.specs.Events.{Event, actor, objects}
 use Rattle.tx_model.specs.State.{Held, Process, Sending, has_object}
 use Rattle.tx_proc.specs.Parts.{process_in}

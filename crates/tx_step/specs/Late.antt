@@ -4,8 +4,8 @@ use Rattle.tx_base.specs.declared.steps.Refusal.{Refusal}
 use Rattle.tx_base.specs.declared.steps.Refusal.TheVariants.{NoMemory}
 use Rattle.tx_base.specs.declared.steps.Reply.TheVariants.{No}
 use Rattle.tx_kernel.specs.Acts.{choice_of}
-use Rattle.tx_live.specs.Made.{RefusesStep}
-use Rattle.tx_live.specs.declared.content.Content.{Content}
+use Rattle.tx_content.specs.Made.{RefusesStep}
+use Rattle.tx_content.specs.declared.content.Content.{Content}
 use Rattle.tx_model.specs.Answer.{IsAccepted, is_bad_choice}
 use Rattle.tx_model.specs.Events.{Event, reply_of}
 use Rattle.tx_model.specs.State.{State}

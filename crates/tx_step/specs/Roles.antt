@@ -2,7 +2,7 @@
 use Rattle.std.specs.Prelude.{ℕ, Bool, Option, Some, None}
 use Rattle.tx_step.specs.declared.roles.StepRole.{StepRole}
 use Rattle.tx_step.specs.declared.roles.StepRole.TheVariants as step
-use Rattle.tx_live.specs.Progresses.{part_of}
+use Rattle.tx_content.specs.Progresses.{part_of}
 use Rattle.tx_model.specs.Membership.{Role, Outside, Within, Begins, Commits, Aborts}
 use Rattle.tx_model.specs.Words.{called_by_status}
 

@@ -13,12 +13,12 @@ use Rattle.tx_base.specs.declared.steps.Step.TheVariants.{Call as Calls, KernelA
 use Rattle.tx_step.specs.Contents.{IsContent}
 use Rattle.tx_kernel.specs.Plans.{memory_in, reply_of}
 use Rattle.tx_laws.specs.Fits.{ends_it}
-use Rattle.tx_live.specs.Commits.{missed_of}
-use Rattle.tx_live.specs.Content.{view_of}
-use Rattle.tx_live.specs.Inverses.{changes_of, GoesWith, Undoes}
-use Rattle.tx_live.specs.Redone.{EndsWhole}
-use Rattle.tx_live.specs.declared.content.Content.{Content}
-use Rattle.tx_live.specs.declared.inverse.Inverse.{Inverse}
+use Rattle.tx_content.specs.Commits.{missed_of}
+use Rattle.tx_content.specs.Content.{view_of}
+use Rattle.tx_content.specs.Inverses.{changes_of, GoesWith, Undoes}
+use Rattle.tx_content.specs.Redone.{EndsWhole}
+use Rattle.tx_content.specs.declared.content.Content.{Content}
+use Rattle.tx_content.specs.declared.inverse.Inverse.{Inverse}
 use Rattle.tx_model.specs.Answer.{answer, IsAccepted}
 use Rattle.tx_model.specs.Events.{effect, process_of}
 use Rattle.tx_model.specs.Footprints.{footprint}

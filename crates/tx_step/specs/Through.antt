@@ -4,8 +4,8 @@ use Rattle.tx_base.specs.declared.names.Pid.{Pid}
 use Rattle.tx_step.specs.Early.{early_refusal}
 use Rattle.tx_step.specs.Roles.{role_as}
 use Rattle.tx_step.specs.declared.roles.StepRole.{StepRole}
-use Rattle.tx_live.specs.Content.{view_of}
-use Rattle.tx_live.specs.declared.content.Content.{Content}
+use Rattle.tx_content.specs.Content.{view_of}
+use Rattle.tx_content.specs.declared.content.Content.{Content}
 use Rattle.tx_model.specs.View.{event_on, starter_in_way, role_on}
 use Rattle.tx_step.specs.Requests.{step_of}
 use Rattle.tx_step.specs.declared.request.Request.{Request}

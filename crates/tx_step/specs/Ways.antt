@@ -14,8 +14,8 @@ use Rattle.tx_kernel.specs.Plans.{sent_at_once}
 use Rattle.tx_kernel.specs.Sends.{IsSentBy}
 use Rattle.tx_kernel.specs.declared.planned.Sends.{Sends}
 use Rattle.tx_kernel.specs.declared.actor.Actor.{Actor}
-use Rattle.tx_live.specs.Content.{held_of, now_of, view_of}
-use Rattle.tx_live.specs.declared.content.Content.{Content}
+use Rattle.tx_content.specs.Content.{held_of, now_of, view_of}
+use Rattle.tx_content.specs.declared.content.Content.{Content}
 use Rattle.tx_model.specs.Words.{call_effect, delivery_effect}
 use Rattle.tx_model.specs.Effects.{Inside as TheInside}
 use Rattle.tx_model.specs.Events.{effect}

@@ -4,7 +4,7 @@ ghost use Rattle.tx_base.specs.declared.steps.Reply.TheVariants as reply;
 ghost use Rattle.tx_base.specs.declared.steps.Step.TheVariants.{KernelAbort};
 ghost use Rattle.tx_step.specs.Contents.{IsContent};
 ghost use Rattle.tx_step.specs.declared.roles.StepRole.TheVariants as role;
-ghost use Rattle.tx_live.specs.Content.{view_of};
+ghost use Rattle.tx_content.specs.Content.{view_of};
 ghost use Rattle.tx_model.specs.Membership.{is_live};
 ghost use Rattle.tx_model.specs.View.{kernel_status};
 ghost use Rattle.tx_step.specs.Requests.{step_of};
@@ -15,7 +15,7 @@ use crate::answered::Answered;
 use crate::laws::laws;
 use crate::request::Request;
 use tx_base::{ABORTED_BY_CALL, ABORTED_BY_KERNEL, ABORTED_DOOMED, Pid};
-use tx_live::{Content, Inverse};
+use tx_content::{Content, Inverse};
 
 /// Aborts the transaction of a starter, at a member's request. It takes no memory.
 pub(crate) fn take_abort(

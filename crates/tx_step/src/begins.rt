@@ -10,8 +10,8 @@ use crate::laws::laws;
 use crate::request::Request;
 use std::alloc::Global;
 use tx_base::{NoMemory, Pid, Refusal};
+use tx_content::{Content, Inverse};
 use tx_kernel::Outcome;
-use tx_live::{Content, Inverse};
 
 /// Begins a transaction, at the process's request.
 ///

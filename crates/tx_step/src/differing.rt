@@ -1,7 +1,7 @@
 //! Signals of a step that are answered differently now than after an abort.
 ghost use Rattle.std.specs.Prelude.{◌≡◌, false, true};
 ghost use Rattle.tx_kernel.specs.Plans.{sent_at_once};
-ghost use Rattle.tx_live.specs.Content.{now_of, view_of};
+ghost use Rattle.tx_content.specs.Content.{now_of, view_of};
 ghost use Rattle.tx_model.specs.Events.{Event, effect};
 ghost use Rattle.tx_model.specs.Footprints.{footprint};
 ghost use Rattle.tx_model.specs.History.{event_footprint};
@@ -22,9 +22,9 @@ use crate::request::Request;
 use crate::roles::StepRole;
 use crate::ways::{at_once, held_by, is_running};
 use tx_base::{Pid, Sending, Signo, Step};
+use tx_content::Content;
 use tx_kernel::Sends;
 use tx_laws::{answers_of_states, locality};
-use tx_live::Content;
 use tx_reserve::Object;
 use tx_txn::posts_by_faces;
 

@@ -4,7 +4,7 @@ ghost use Rattle.tx_base.specs.Slots.{slot_at};
 ghost use Rattle.tx_base.specs.declared.steps.Step.TheVariants.{Call as Calls, Deliver};
 ghost use Rattle.tx_step.specs.Early.{early_refusal, member_refusal, own_refusal};
 ghost use Rattle.tx_kernel.specs.Actors.{IsWhole};
-ghost use Rattle.tx_live.specs.Content.{content_of, view_of, IsShaped};
+ghost use Rattle.tx_content.specs.Content.{content_of, view_of, IsShaped};
 ghost use Rattle.tx_model.specs.Membership.{is_live};
 ghost use Rattle.tx_model.specs.SignalSets.{kill_signo};
 ghost use Rattle.tx_model.specs.View.{has_pending, is_doomed};
@@ -14,8 +14,8 @@ ghost use Rattle.tx_txn.specs.Marks.{table_at};
 
 use crate::refusal_laws::laws;
 use tx_base::{Call, Pid, Refusal, SIGKILL, Signo};
+use tx_content::Content;
 use tx_kernel::Actor;
-use tx_live::Content;
 use tx_proc::Proc;
 use tx_signal::has;
 

@@ -10,7 +10,7 @@ use crate::laws::laws;
 use crate::request::Request;
 use std::alloc::Global;
 use tx_base::{NoMemory, Pid, Refusal};
-use tx_live::{Content, Inverse};
+use tx_content::{Content, Inverse};
 
 /// Does what a step requests of the last member whose part is open, which ends that part and
 /// commits.

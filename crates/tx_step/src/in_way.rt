@@ -2,8 +2,8 @@
 ghost use Rattle.std.specs.Prelude.{◌≡◌, option_map};
 ghost use Rattle.tx_step.specs.Faces.{sent};
 ghost use Rattle.tx_step.specs.InWay.{IsOfMember, gives_two_answers, least_target, passing};
-ghost use Rattle.tx_live.specs.Content.{content_of, now_of, view_of};
-ghost use Rattle.tx_live.specs.Insides.{IsFootprint};
+ghost use Rattle.tx_content.specs.Content.{content_of, now_of, view_of};
+ghost use Rattle.tx_content.specs.Insides.{IsFootprint};
 ghost use Rattle.tx_model.specs.Events.{Event, effect};
 ghost use Rattle.tx_model.specs.View.{starter_in_way};
 ghost use Rattle.tx_reserve.specs.Reservations.{lesser_of, number_of};
@@ -11,8 +11,8 @@ ghost use Rattle.tx_txn.specs.Content.{IsKept};
 
 use crate::faces::Faces;
 use tx_base::{Pid, Sending};
+use tx_content::Content;
 use tx_kernel::Sends;
-use tx_live::Content;
 use tx_reserve::{Object, Objects};
 use tx_txn::answers_of_faces;
 

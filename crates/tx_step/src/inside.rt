@@ -1,8 +1,8 @@
 //! Steps of members, after which their transaction is live.
 ghost use Rattle.tx_step.specs.Contents.{IsContent};
 ghost use Rattle.tx_step.specs.declared.roles.StepRole.TheVariants as role;
-ghost use Rattle.tx_live.specs.Content.{view_of};
-ghost use Rattle.tx_live.specs.Insides.{IsFootprint};
+ghost use Rattle.tx_content.specs.Content.{view_of};
+ghost use Rattle.tx_content.specs.Insides.{IsFootprint};
 ghost use Rattle.tx_model.specs.View.{event_on};
 ghost use Rattle.tx_step.specs.Requests.{step_of};
 ghost use Rattle.tx_step.specs.Steps.{Takes};
@@ -14,7 +14,7 @@ use crate::laws::laws;
 use crate::request::Request;
 use std::alloc::Global;
 use tx_base::{Pid, Refusal};
-use tx_live::{Content, Inverse, Progress};
+use tx_content::{Content, Inverse, Progress};
 use tx_reserve::Objects;
 
 /// Does what a step requests of a member, and reserves its footprint.

@@ -3,15 +3,15 @@ ghost use Rattle.tx_base.specs.Slots.{slot_at};
 ghost use Rattle.tx_step.specs.Contents.{IsContent};
 ghost use Rattle.tx_step.specs.Late.{IsWhyNot, TellsRule, WasRefused};
 ghost use Rattle.tx_kernel.specs.Acts.{event_of};
-ghost use Rattle.tx_live.specs.Content.{now_of};
-ghost use Rattle.tx_live.specs.Made.{IsRunning};
+ghost use Rattle.tx_content.specs.Content.{now_of};
+ghost use Rattle.tx_content.specs.Made.{IsRunning};
 ghost use Rattle.tx_model.specs.Membership.{inside_by};
 ghost use Rattle.tx_txn.specs.Marks.{table_at};
 
 use crate::ways::actor_of;
 use tx_base::{Pid, Refusal};
+use tx_content::Content;
 use tx_kernel::Act;
-use tx_live::Content;
 
 /// Why the act of a process that runs was refused, given why its plan was: for the same reason, but
 /// if that was want of memory and the rule has a reason, for the rule's. It takes no memory.

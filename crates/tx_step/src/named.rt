@@ -1,6 +1,6 @@
 //! What a step names, whether or not its process runs.
 ghost use Rattle.tx_base.specs.Slots.{slot_at};
-ghost use Rattle.tx_live.specs.Content.{held_of, view_of};
+ghost use Rattle.tx_content.specs.Content.{held_of, view_of};
 ghost use Rattle.tx_model.specs.Footprints.{footprint};
 ghost use Rattle.tx_model.specs.View.{present};
 ghost use Rattle.tx_reserve.specs.Footprints.{HoldsBy, HoldsFor, IsSetOf};
@@ -9,7 +9,7 @@ ghost use Rattle.tx_step.specs.Contents.{IsContent};
 use crate::laws::laws;
 use crate::ways::held_by;
 use tx_base::{Pid, Sending, Step};
-use tx_live::Content;
+use tx_content::Content;
 use tx_reserve::Objects;
 
 /// The objects, of numbers in range, that a step names: those that it reserves if its process is a

@@ -11,7 +11,7 @@ use crate::laws::laws;
 use crate::request::Request;
 use std::alloc::Global;
 use tx_base::{Pid, Refusal};
-use tx_live::{Content, Inverse};
+use tx_content::{Content, Inverse};
 
 /// Does what a step requests of a process that is in no transaction.
 ///

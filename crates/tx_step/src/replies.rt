@@ -13,8 +13,8 @@ ghost use Rattle.tx_txn.specs.Outboxes.{missed_in};
 use crate::answered::Answered;
 use arrayvec::ArrayVec;
 use tx_base::{ADDRESSES, Pid, Reply};
+use tx_content::{Content, Inverse};
 use tx_kernel::{Outcome, Shown};
-use tx_live::{Content, Inverse};
 use tx_proc::Proc;
 use tx_txn::Outbox;
 

@@ -8,9 +8,9 @@ ghost use Rattle.tx_step.specs.Contents.{IsContent, IsIdle};
 ghost use Rattle.tx_step.specs.Early.{early_refusal};
 ghost use Rattle.tx_step.specs.Roles.{role_alone, role_as};
 ghost use Rattle.tx_kernel.specs.Acts.{event_of};
-ghost use Rattle.tx_live.specs.Content.{now_of, view_of};
-ghost use Rattle.tx_live.specs.Insides.{IsFootprint};
-ghost use Rattle.tx_live.specs.Made.{IsRunning};
+ghost use Rattle.tx_content.specs.Content.{now_of, view_of};
+ghost use Rattle.tx_content.specs.Insides.{IsFootprint};
+ghost use Rattle.tx_content.specs.Made.{IsRunning};
 ghost use Rattle.tx_model.specs.Events.{effect};
 ghost use Rattle.tx_model.specs.Words.{has_bad_number, kind_of};
 ghost use Rattle.tx_model.specs.Membership.{Table, inside_by, kind_event};
@@ -26,9 +26,9 @@ use crate::refusal_laws::{contents_are_whole, laws, posts_are_told};
 use crate::roles::{StepRole, beginning, role_of_call, role_of_delivery};
 use crate::ways::{actor_of, way_of_call, way_of_delivery};
 use tx_base::{Call, Pid, Refusal, Signo};
+use tx_content::Content;
 use tx_kernel::{Act, Sends};
 use tx_laws::endings;
-use tx_live::Content;
 use tx_reserve::Objects;
 
 /// What a step requests of its process: to make a call, or to take a pending signal.

@@ -5,8 +5,8 @@ ghost use Rattle.tx_base.specs.declared.steps.Reply.{Reply};
 ghost use Rattle.tx_base.specs.declared.steps.Step.TheVariants.{Call as Calls, Deliver};
 ghost use Rattle.tx_step.specs.Roles.{role_alone, role_as};
 ghost use Rattle.tx_laws.specs.Endings.{end_reply};
-ghost use Rattle.tx_live.specs.Content.{content_of, view_of, IsShaped};
-ghost use Rattle.tx_live.specs.Made.{IsRunning};
+ghost use Rattle.tx_content.specs.Content.{content_of, view_of, IsShaped};
+ghost use Rattle.tx_content.specs.Made.{IsRunning};
 ghost use Rattle.tx_model.specs.Deliveries.{delivered_value, ends_by};
 ghost use Rattle.tx_model.specs.Membership.{Table, inside_by, is_live, member_end, others_open};
 ghost use Rattle.tx_model.specs.Words.{kind_of, kind_role};
@@ -18,9 +18,9 @@ ghost use Rattle.tx_txn.specs.Marks.{table_at};
 
 use crate::refusal_laws::laws;
 use tx_base::{Call, Mark, Pid, Signo};
+use tx_content::{Content, Progress};
 use tx_kernel::Actor;
 use tx_laws::endings;
-use tx_live::{Content, Progress};
 use tx_proc::Proc;
 use tx_txn::is_last_open;
 

@@ -3,8 +3,8 @@ ghost use Rattle.tx_base.specs.declared.steps.Step.TheVariants.{Call as Calls, D
 ghost use Rattle.std.specs.Prelude.{◌≡◌, None};
 ghost use Rattle.tx_step.specs.Contents.{IsContent, IsIdle};
 ghost use Rattle.tx_step.specs.Early.{early_refusal};
-ghost use Rattle.tx_live.specs.Content.{view_of};
-ghost use Rattle.tx_live.specs.Insides.{IsFootprint};
+ghost use Rattle.tx_content.specs.Content.{view_of};
+ghost use Rattle.tx_content.specs.Insides.{IsFootprint};
 ghost use Rattle.tx_model.specs.View.{event_on};
 ghost use Rattle.tx_step.specs.Requests.{step_of};
 ghost use Rattle.tx_step.specs.Steps.{Takes};
@@ -21,7 +21,7 @@ use crate::request::Request;
 use crate::roles::StepRole;
 use std::alloc::Global;
 use tx_base::{Call, Pid, Refusal, Signo};
-use tx_live::{Content, Inverse};
+use tx_content::{Content, Inverse};
 use tx_reserve::Objects;
 
 /// Makes a call of a process. Answers what it is answered, and puts its inverse into its place.

@@ -4,7 +4,7 @@ ghost use Rattle.std.specs.Prelude.{◌≡◌, ◌++◌, ◌<◌, ℕ, IfOk, Lis
 ghost use Rattle.tx_change.specs.States.{state_of};
 ghost use Rattle.tx_desc.specs.Descriptions.{described, end_for};
 ghost use Rattle.tx_desc.specs.Places.{number_in};
-ghost use Rattle.tx_live.specs.Content.{view_of};
+ghost use Rattle.tx_content.specs.Content.{view_of};
 ghost use Rattle.tx_model.specs.Footprints.{footprint};
 ghost use Rattle.tx_model.specs.State.{Sending};
 ghost use Rattle.tx_model.specs.View.{present};

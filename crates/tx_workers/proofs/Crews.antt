@@ -1,7 +1,7 @@
 -- Teams that grow by a worker.
 use Rattle.std.proofs.Common.{◌≡◌, ℕ, ◌+◌, ◌-◌, ◌<◌, ◌≤◌, List, [], ◌∷◌, ◌++◌, length, vec_len, ap, arith, length-append}
-use Rattle.tx_ready.specs.Hands.{both, HoldsEach}
-use Rattle.tx_ready.specs.declared.rule.Hand.{Hand}
+use Rattle.tx_ready_queue.specs.Hands.{both, HoldsEach}
+use Rattle.tx_ready_queue.specs.declared.rule.Hand.{Hand}
 use Rattle.tx_workers.specs.Services.{IsCrewOf, IsService}
 use Rattle.tx_workers.specs.Teams.{AreRunners, IsTeam, IsWorkOf, made}
 use Rattle.tx_workers.specs.declared.runner.Runner.{Runner}

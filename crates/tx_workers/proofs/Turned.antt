@@ -4,7 +4,7 @@ use Rattle.std.proofs.Math.Seq.{drop-append_seam, take-append_seam}
 use Rattle.tx_journal.specs.Entries.{history_of}
 use Rattle.tx_journal.specs.Sessions.{start_of, IsAtEnd, SessionState, SameBoot}
 use Rattle.tx_journal.specs.declared.entry.Entry.{Entry}
-use Rattle.tx_live.specs.Content.{view_of}
+use Rattle.tx_content.specs.Content.{view_of}
 use Rattle.tx_model.specs.State.{boot_state}
 use Rattle.tx_model.specs.View.{view, View}
 use Rattle.tx_lines.specs.declared.programs.Program.{Program}

@@ -13,8 +13,8 @@ use Rattle.tx_lines.specs.Lines.{step_text}
 use Rattle.tx_lines.specs.Whole.{WritesWhole}
 use Rattle.tx_lines.specs.declared.faults.Fault.{Fault}
 use Rattle.tx_lines.specs.declared.faults.Fault.TheVariants.{NoMemory}
-use Rattle.tx_text.specs.Replies.{reply_text}
-use Rattle.tx_text.specs.State.{state_text}
+use Rattle.tx_state_text.specs.Replies.{reply_text}
+use Rattle.tx_state_text.specs.State.{state_text}
 
 -- the line of a step that a worker made: its number, the worker, the step and its reply
 abbrev pub run_line : ℕ → ℕ → Step → Reply → List ℕ

@@ -1,9 +1,9 @@
 -- What workers at the ready queue give back.
 use Rattle.std.specs.Prelude.{◌≡◌, ℕ, ◌+◌, ◌*◌, ◌^◌, ◌<◌, ◌≤◌, List, length, sum, vec_len, slice_index}
-use Rattle.tx_ready.specs.Hands.{GivesBack, HoldsEach}
-use Rattle.tx_ready.specs.Stations.{LeavesEach}
-use Rattle.tx_ready.specs.declared.rule.Hand.{Hand}
-use Rattle.tx_ready.specs.declared.tally.Tally.{Tally}
+use Rattle.tx_ready_queue.specs.Hands.{GivesBack, HoldsEach}
+use Rattle.tx_ready_queue.specs.Stations.{LeavesEach}
+use Rattle.tx_ready_queue.specs.declared.rule.Hand.{Hand}
+use Rattle.tx_ready_queue.specs.declared.tally.Tally.{Tally}
 use Rattle.tx_workers.specs.Teams.{made, IsTeam, IsWorkOf}
 use Rattle.tx_workers.specs.declared.runner.Runner.{Runner}
 

@@ -4,7 +4,7 @@ use Rattle.std.specs.Io.KnownBytes.{Appends, Keeps}
 use Rattle.tx_journal.specs.Sessions.{SessionState}
 use Rattle.tx_lines.specs.Ends.{Counts}
 use Rattle.tx_lines.specs.Lines.{most_of}
-use Rattle.tx_plain.specs.MeantPrograms.{MeansProgram, MeansProgramFrom}
+use Rattle.tx_translate.specs.MeantPrograms.{MeansProgram, MeansProgramFrom}
 use Rattle.tx_lines.specs.Whole.{IsCalm, WritesWhole}
 use Rattle.tx_lines.specs.declared.faults.Fault.TheVariants as fault
 use Rattle.tx_lines.specs.declared.programs.Program.{Program}

@@ -1,7 +1,7 @@
 //! Workers in threads of their own, who take processes from the ready queue.
 ghost use Rattle.std.specs.Prelude.{◌≡◌, ◌+◌, ◌-◌, ◌*◌, ◌<◌, ◌≤◌, ◌^◌, [], IfOk, Some, length};
-ghost use Rattle.tx_ready.specs.Hands.{begins, HoldsEach};
-ghost use Rattle.tx_ready.specs.Stations.{IsStationOf};
+ghost use Rattle.tx_ready_queue.specs.Hands.{begins, HoldsEach};
+ghost use Rattle.tx_ready_queue.specs.Stations.{IsStationOf};
 ghost use Rattle.tx_workers.specs.Services.{most_taken, IsCrewOf, IsService};
 
 use crate::desk::Work;
@@ -14,7 +14,7 @@ use crate::team::{Team, joined};
 use std::sync::Wait;
 use std::sync::ledger::Share;
 use std::thread::{Scope, Threads};
-use tx_ready::{ReadyQueue, Station};
+use tx_ready_queue::{ReadyQueue, Station};
 
 /// What some workers at the ready queue give back, with their stations in one.
 #[derive(Drop)]

@@ -57,6 +57,6 @@ pub use results::Worked;
 pub use run::run_workers;
 pub use text::write_run;
 pub use turns::{Took, turn, turn_of};
-pub use tx_ready::Tally;
+pub use tx_ready_queue::Tally;
 pub use whole::{RunFault, run_from};
 pub use worker::Worker;

@@ -1,7 +1,7 @@
 //! The step that a program names for a process.
 ghost use Rattle.std.specs.Option.{option_copied};
 ghost use Rattle.std.specs.Prelude.{◌≡◌, None, Some, slice_get};
-ghost use Rattle.tx_live.specs.Content.{view_of};
+ghost use Rattle.tx_content.specs.Content.{view_of};
 ghost use Rattle.tx_model.specs.FreeNumbers.{free_numbers};
 ghost use Rattle.tx_base.specs.declared.names.Regs.{Regs};
 ghost use Rattle.tx_model.specs.View.{View, present};

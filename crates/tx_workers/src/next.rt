@@ -1,6 +1,6 @@
 //! Whose turn is next.
 ghost use Rattle.std.specs.Prelude.{◌≡◌, ◌≤◌, option_map};
-ghost use Rattle.tx_live.specs.Content.{view_of};
+ghost use Rattle.tx_content.specs.Content.{view_of};
 ghost use Rattle.tx_workers.specs.Names.{process_number};
 ghost use Rattle.tx_workers.specs.Tops.{NoneRunsOver};
 ghost use Rattle.tx_workers.specs.Turns.{belongs_to, is_next_of, next_process};

@@ -1,8 +1,8 @@
 //! A whole run of workers who take processes from the ready queue.
 ghost use Rattle.std.specs.Prelude.{◌≡◌, ◌+◌, ◌≤◌, [], length, IfOk, Some};
 ghost use Rattle.tx_journal.specs.Sessions.{IsAtEnd};
-ghost use Rattle.tx_ready.specs.Hands.{HoldsEach};
-ghost use Rattle.tx_ready.specs.Stations.{IsStationOf};
+ghost use Rattle.tx_ready_queue.specs.Hands.{HoldsEach};
+ghost use Rattle.tx_ready_queue.specs.Stations.{IsStationOf};
 ghost use Rattle.tx_workers.specs.Runs.{IsOutcome, IsWorked};
 ghost use Rattle.tx_workers.specs.Services.{IsCrewOf, IsTallied};
 ghost use Rattle.tx_workers.specs.Teams.{made, noted};
@@ -21,7 +21,7 @@ use std::thread;
 use std::thread::Threads;
 use tx_journal::Session;
 use tx_lines::Program;
-use tx_ready::{ReadyQueue, Station, Tally};
+use tx_ready_queue::{ReadyQueue, Station, Tally};
 
 /// Runs the program by workers as `run_workers` does, but no worker has processes of its own: in a
 /// turn it takes process numbers from a queue that all share, gives each of these processes its

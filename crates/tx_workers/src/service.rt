@@ -1,7 +1,7 @@
 //! What a worker's thread does at the ready queue.
 ghost use Rattle.std.specs.Prelude.{◌≡◌, ◌+◌, ◌<◌, ◌≤◌, ◌^◌, [], Some, length, vec_len};
-ghost use Rattle.tx_ready.specs.Hands.{begins, GivesBack};
-ghost use Rattle.tx_ready.specs.Stations.{IsStationOf};
+ghost use Rattle.tx_ready_queue.specs.Hands.{begins, GivesBack};
+ghost use Rattle.tx_ready_queue.specs.Stations.{IsStationOf};
 ghost use Rattle.tx_workers.specs.Services.{IsService};
 
 use crate::desk::Work;
@@ -13,7 +13,7 @@ use std::sync::Wait;
 use std::sync::ledger::Share;
 use std::thread::Promise;
 use tx_base::NoMemory;
-use tx_ready::{ReadyQueue, Station};
+use tx_ready_queue::{ReadyQueue, Station};
 
 /// What a worker's thread at the ready queue gives back.
 #[derive(Drop)]
@@ -30,7 +30,7 @@ pub struct Service<'s> {
 }
 
 impl<J: Work> Promise<Served<J>> for Service<'_> {
-    ghost use Rattle.tx_ready.specs.Stations.{IsStationOf};
+    ghost use Rattle.tx_ready_queue.specs.Stations.{IsStationOf};
     ghost use Rattle.tx_workers.specs.Services.{IsService};
 
     ghost kept_by = { λ service served.

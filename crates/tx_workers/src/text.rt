@@ -2,7 +2,7 @@
 ghost use Rattle.std.specs.Fmt.{decimal};
 ghost use Rattle.std.specs.Prelude.{◌≡◌, ◌++◌, ◌∷◌, [], IfErr, IfOk, OnOk, codes, string_bytes};
 ghost use Rattle.tx_lines.specs.Ends.{IsFresh};
-ghost use Rattle.tx_text.specs.Replies.{reply_text};
+ghost use Rattle.tx_state_text.specs.Replies.{reply_text};
 ghost use Rattle.tx_workers.specs.RunText.{WritesText, entry_line, numbered, run_line, run_text};
 ghost use Rattle.tx_lines.specs.declared.faults.Fault.TheVariants.{NoMemory};
 
@@ -10,7 +10,7 @@ use std::alloc::{AllocError, Global};
 use tx_base::{Reply, Step};
 use tx_journal::{Session, put_state};
 use tx_lines::{Fault, Sink, put, put_count, put_count_first, put_step, write_whole};
-use tx_text::put_reply;
+use tx_state_text::put_reply;
 
 /// Writes the entries of a session, a line each with its worker, its step and its reply, and the state at
 /// the position. Nothing is written where the fault is `NoMemory`; the only other one is `Writer`.

@@ -2,7 +2,7 @@
 ghost use Rattle.std.specs.Prelude.{◌≡◌, ◌+◌, ◌≤◌, ◌<◌, ◌++◌, IfOk, OnErr, OnOk, drop, length, map, vec_capacity};
 ghost use Rattle.tx_journal.specs.Entries.{accepted_of};
 ghost use Rattle.tx_journal.specs.Sessions.{IsAtEnd, start_of};
-ghost use Rattle.tx_live.specs.Content.{view_of};
+ghost use Rattle.tx_content.specs.Content.{view_of};
 ghost use Rattle.tx_model.specs.Answer.{answer, is_running};
 ghost use Rattle.tx_model.specs.View.{present};
 ghost use Rattle.tx_workers.specs.Histories.{view_after};

@@ -11,7 +11,7 @@ use std::thread::Threads;
 use thiserror::Error;
 use tx_journal::Session;
 use tx_lines::{Fault, Source};
-use tx_plain::read_program;
+use tx_translate::read_program;
 
 /// Why no run was written, or not the whole of it. It prints as the fault that it holds.
 #[derive(Clone, Copy, PartialEq, Eq, Debug, Error)]

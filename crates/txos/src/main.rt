@@ -26,9 +26,9 @@ use tx_expect::{check_too, expect};
 use tx_explain::{explain, listing, nearest};
 use tx_lines::{Fault, OverRead, OverWrite, Sink, Source, write_whole};
 use tx_picture::picture;
-use tx_plain::write_plain;
 use tx_script::{Form, debug, replay, write_json};
 use tx_shell::{Console, Shell, TalkFault, talk};
+use tx_translate::write_plain;
 use words::{
     Asked, CHECK_USAGE, JSON_USAGE, PICTURE_USAGE, VERSION_LINES, number_asked, read_words,
 };

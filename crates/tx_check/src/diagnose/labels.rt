@@ -4,7 +4,7 @@ ghost use Rattle.tx_check.specs.Labels.{AreKnown};
 ghost use Rattle.tx_check.specs.Right.{SpellsLine};
 ghost use Rattle.tx_check.specs.Speaking.{kind_of_what, OfGrammar, OfLabel};
 ghost use Rattle.tx_check.specs.Wrong.{IsLinkedLine, IsTwice, NamesNowhere};
-ghost use Rattle.tx_plain.specs.MeantLines.{left_of};
+ghost use Rattle.tx_translate.specs.MeantLines.{left_of};
 
 use crate::faults::is_unlinked;
 use crate::labels::{LABEL_FRONT, Labels};
@@ -12,7 +12,7 @@ use crate::places::is_label;
 use crate::trouble::{Names, Trouble, What, WordTrouble};
 use crate::words::{Word, count_words, word_at};
 use tx_lines::Version;
-use tx_plain::MeantLines;
+use tx_translate::MeantLines;
 
 /// What is wrong with the line of that number, where it is a label whose name stands in a line
 /// before it.

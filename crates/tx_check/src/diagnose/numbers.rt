@@ -3,7 +3,7 @@ use crate::forms::Field;
 use crate::trouble::{Trouble, WordTrouble};
 use crate::words::Word;
 use tx_lines::{number, read_byte, read_pid, read_position};
-use tx_plain::signal;
+use tx_translate::signal;
 
 /// What is wrong where a number is wanted, by what it stands for.
 pub fn number_trouble<'a>(field: Field, word: Word<'a>) -> Option<Trouble<'a>> {

@@ -1,6 +1,6 @@
 //! What is wrong with a line that is to give a name to a process.
 ghost use Rattle.std.specs.Prelude.{◌≡◌, false, is_some, true, IfNone, IfSome};
-ghost use Rattle.tx_plain.specs.Names.{is_name, process_in};
+ghost use Rattle.tx_translate.specs.Names.{is_name, process_in};
 
 use crate::diagnose::numbers::no_number;
 use crate::forms::{SESSION, form_of};
@@ -9,7 +9,7 @@ use crate::placed::before_return;
 use crate::places::Part;
 use crate::trouble::{Trouble, What, WordTrouble};
 use crate::words::Word;
-use tx_plain::{is_name, process_in, split_word};
+use tx_translate::{is_name, process_in, split_word};
 
 /// What is wrong with an own line that is to give a name, where that was found which is wrong with such a
 /// line before version 3. Else what was found.

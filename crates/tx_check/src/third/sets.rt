@@ -1,6 +1,6 @@
 //! What is wrong with a word that is to be a set of signals, by names or numbers.
 use crate::trouble::WordTrouble;
-use tx_plain::signal;
+use tx_translate::signal;
 
 /// What is wrong with a word that is no set: the first of its members that is no signal, or that
 /// one stands in it twice.

@@ -3,7 +3,7 @@ ghost use Rattle.std.specs.Prelude.{◌≡◌, ◌≢◌};
 ghost use Rattle.tx_check.specs.Kinds.{kind_of};
 ghost use Rattle.tx_check.specs.declared.kinds.Kind.TheVariants as kinds;
 ghost use Rattle.tx_lines.specs.Ends.{IsFresh};
-ghost use Rattle.tx_plain.specs.Meant.{meant_of};
+ghost use Rattle.tx_translate.specs.Meant.{meant_of};
 ghost use Rattle.tx_script.specs.Answered.{Answers};
 ghost use Rattle.tx_script.specs.JsonTexts.{texts};
 ghost use Rattle.tx_script.specs.Grammars.{AnswersText};
@@ -14,7 +14,7 @@ use crate::forms::Form;
 use std::alloc::Global;
 use tx_check::{Kind, kind_of};
 use tx_lines::{Fault, Sink, Source, read_whole, write_whole};
-use tx_plain::{MeantLines, read_schedule, read_walk};
+use tx_translate::{MeantLines, read_schedule, read_walk};
 
 /// Reads a schedule, or one with commands, to its end, and writes what `json_text` answers. Nothing is
 /// written where the fault is another one than `Writer`.

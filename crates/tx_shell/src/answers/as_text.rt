@@ -6,7 +6,7 @@ ghost use Rattle.tx_script.specs.Debug.{responded_in, response_text};
 ghost use Rattle.tx_shell.specs.Names.{named};
 ghost use Rattle.tx_shell.specs.Places.{origin_of, place_of};
 ghost use Rattle.tx_shell.specs.Forms.{IsPlaced, TellsAnswer};
-ghost use Rattle.tx_text.specs.Replies.{named_reply_text};
+ghost use Rattle.tx_state_text.specs.Replies.{named_reply_text};
 
 use crate::answers::answer::Answer;
 use crate::answers::helps::text_as;
@@ -22,7 +22,7 @@ use std::fmt::Write;
 use tx_base::{NoMemory, Reply};
 use tx_journal::Session;
 use tx_script::{Response, put_response};
-use tx_text::put_named_reply;
+use tx_state_text::put_named_reply;
 
 /// The lines of an answer.
 ///

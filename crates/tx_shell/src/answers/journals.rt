@@ -18,7 +18,7 @@ use std::fmt::Write;
 use tx_base::NoMemory;
 use tx_journal::{Entry, Session};
 use tx_lines::{Version, put, put_step};
-use tx_text::put_named_reply;
+use tx_state_text::put_named_reply;
 
 /// The steps of those numbers, a line each with its number, its worker and its reply, and the
 /// position where it is among them. Where none is among them, how many steps there are.

@@ -3,7 +3,7 @@ ghost use Rattle.std.specs.Prelude.{◌≡◌, ◌+◌, ◌≤◌, ◌++◌, ◌
 ghost use Rattle.tx_journal.specs.Sessions.{start_of, IsAtEnd, SameBoot};
 ghost use Rattle.tx_shell.specs.Answers.{AnswersStep, MakesStep};
 ghost use Rattle.tx_shell.specs.Places.{place_of};
-ghost use Rattle.tx_text.specs.Replies.{named_reply_text};
+ghost use Rattle.tx_state_text.specs.Replies.{named_reply_text};
 
 use crate::answers::forms::{put_ahead, put_reply};
 use std::alloc::{AllocError, Global};
@@ -11,7 +11,7 @@ use tx_base::{ABORTED_BY_CALL, NoMemory, Reply, Step};
 use tx_journal::Session;
 use tx_lines::put;
 use tx_script::{Form, WORKER};
-use tx_text::put_named_reply;
+use tx_state_text::put_named_reply;
 
 /// Makes a step at the end of the journal, puts its reply in its place, and the line of that in
 /// place of what the text had. Elsewhere it is not made, and both ways out are named. A step that

@@ -2,7 +2,7 @@
 ghost use Rattle.std.specs.Prelude.{◌≡◌, ◌≢◌, ◌<◌, ◌≤◌, ◌^◌, ◌++◌, ◌∷◌, ℕ, List, MatchOption, IfSome, None, codes, false, true};
 ghost use Rattle.std.specs.Fmt.{decimal};
 ghost use Rattle.tx_lines.specs.Schedule.{IsNoStep};
-ghost use Rattle.tx_plain.specs.Names.{is_name};
+ghost use Rattle.tx_translate.specs.Names.{is_name};
 ghost use Rattle.tx_shell.specs.Answers.{ask_text, lets_go, FitsAsk, IsNoAsk, IsOfName, IsOfNumbers, IsOfWords};
 ghost use Rattle.tx_shell.specs.Pieces.{IsNoPiece};
 ghost use Rattle.tx_shell.specs.declared.lines.asks.Ask.{Ask};
@@ -14,7 +14,7 @@ use std::str;
 use tx_base::{DescNo, Pid, PipeNo, Step};
 use tx_journal::Piece;
 use tx_lines::{Command, read_command, read_pid, read_position, read_step, split_word};
-use tx_plain::is_name;
+use tx_translate::is_name;
 
 /// What a session is asked for by a line that is no step.
 #[derive(Drop)]

@@ -1,17 +1,17 @@
 //! What a line means.
 ghost use Rattle.std.specs.Prelude.{◌≡◌, ◌≢◌, ◌++◌, [], ℕ, IfOk, IfSome, List, MatchOption, option_map};
 ghost use Rattle.tx_lines.specs.declared.read.header.TextKind.TheVariants.{Schedule};
-ghost use Rattle.tx_plain.specs.Lines.{plain_line};
-ghost use Rattle.tx_plain.specs.Names.{named};
-ghost use Rattle.tx_plain.specs.OwnLines.{without_return};
-ghost use Rattle.tx_plain.specs.declared.stage.Stage.TheVariants.{Within};
+ghost use Rattle.tx_translate.specs.Lines.{plain_line};
+ghost use Rattle.tx_translate.specs.Names.{named};
+ghost use Rattle.tx_translate.specs.OwnLines.{without_return};
+ghost use Rattle.tx_translate.specs.declared.stage.Stage.TheVariants.{Within};
 ghost use Rattle.tx_shell.specs.Meanings.{after_word, asks_of_step, bytes_of, first_word, meant_line, naming_words, own_line, spelled_line, third_line, usual_words, with_step};
 
 use crate::lines::versions::TextVersion;
 use std::alloc::Global;
 use tx_base::NoMemory;
 use tx_lines::{LINE_BYTES, take_line};
-use tx_plain::{Naming, Room, naming_in, plain_line, split_word};
+use tx_translate::{Naming, Room, naming_in, plain_line, split_word};
 
 /// What a line means, as a line of version 1 or 2.
 #[derive(Drop)]

@@ -8,7 +8,7 @@ use crate::lines::versions::TextVersion;
 use std::alloc::Global;
 use tx_base::NoMemory;
 use tx_lines::{Header, TextKind, Version, first_header};
-use tx_plain::{Meant, is_third};
+use tx_translate::{Meant, is_third};
 
 /// What a header says.
 #[derive(Clone, Copy)]

@@ -13,7 +13,7 @@ use std::alloc::{AllocError, Global};
 use tx_base::{Call, NoMemory, Pid, Refusal, Reply, Step};
 use tx_journal::Session;
 use tx_lines::put;
-use tx_text::put_named_reply;
+use tx_state_text::put_named_reply;
 
 /// The last step of a process, which was refused, and the reply that it would get at the position.
 #[derive(Drop)]

@@ -15,7 +15,7 @@ ghost use Rattle.tx_waits.specs.Kinds.{limit_of};
 ghost use Rattle.tx_shell.specs.Names.{named};
 ghost use Rattle.tx_shell.specs.Places.{view_at};
 ghost use Rattle.tx_shell.specs.Reasons.{blocked_line, since_text};
-ghost use Rattle.tx_text.specs.Each.{each_text};
+ghost use Rattle.tx_state_text.specs.Each.{each_text};
 
 use crate::names::{Behind, Names, put_step_made};
 use std::alloc::{AllocError, Global};

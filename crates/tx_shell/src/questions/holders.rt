@@ -3,7 +3,7 @@ ghost use Rattle.std.specs.Prelude.{◌≡◌, ◌++◌, ◌∷◌, OnOk, string
 ghost use Rattle.tx_desc.specs.Descriptions.{end_for};
 ghost use Rattle.tx_shell.specs.Holders.{holders_line, next_text, nobody_line, side_word};
 ghost use Rattle.tx_shell.specs.Names.{named};
-ghost use Rattle.tx_text.specs.Each.{each_text};
+ghost use Rattle.tx_state_text.specs.Each.{each_text};
 
 use crate::names::{Behind, Names};
 use std::alloc::AllocError;

@@ -1,7 +1,7 @@
 //! Reports what live transactions have reserved.
 ghost use Rattle.std.specs.Prelude.{◌≡◌, ◌++◌, IfOk, OnOk, string_bytes};
 ghost use Rattle.tx_lines.specs.Lists.{some_after};
-ghost use Rattle.tx_live.specs.Content.{view_of};
+ghost use Rattle.tx_content.specs.Content.{view_of};
 ghost use Rattle.tx_model.specs.Membership.{is_live};
 ghost use Rattle.tx_shell.specs.Names.{named};
 ghost use Rattle.tx_shell.specs.Owners.{member_said, number_said, or_no_transaction, owned_text, owner_line, owner_lines};

@@ -19,7 +19,7 @@ use tx_base::{NoMemory, Refusal, Reply, Step};
 use tx_journal::Session;
 use tx_json::Holder;
 use tx_lines::{put, refusal_word};
-use tx_text::put_named_reply;
+use tx_state_text::put_named_reply;
 use tx_waits::awaited_holders;
 
 /// What is reported of the reply that a step would get.

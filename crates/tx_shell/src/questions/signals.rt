@@ -14,8 +14,8 @@ use std::fmt::Write;
 use tx_base::{Pid, Step};
 use tx_journal::Session;
 use tx_lines::put;
+use tx_state_text::error_name;
 use tx_step::TwoAnswers;
-use tx_text::error_name;
 use tx_waits::Kind;
 
 /// Appends a line for each starter of another's live transaction at which a signal of the step has two

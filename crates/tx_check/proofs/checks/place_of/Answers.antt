@@ -6,7 +6,7 @@ use Rattle.tx_check.proofs.Numbered.{lines_more, some_line}
 use Rattle.tx_check.proofs.Standing.{stands_at_fault, stands_later}
 use Rattle.tx_check.specs.declared.places.Place.{Place}
 use Rattle.tx_lines.specs.Schedule.{first_line}
-use Rattle.tx_plain.specs.MeantLines.{left_of, OwnsFrom}
+use Rattle.tx_translate.specs.MeantLines.{left_of, OwnsFrom}
 use Rattle.tx_check.proofs.checks.place_of.Goals as goal
 
 pub loop-before-preserved : goal.loop-before-preserved

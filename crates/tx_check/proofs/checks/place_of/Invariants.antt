@@ -2,7 +2,7 @@ use Rattle.std.proofs.Common.{◌≡◌, ◌≢◌, ◌+◌, ℕ, List}
 use Rattle.tx_check.specs.Numbered.{after_lines}
 use Rattle.tx_check.specs.Stands.{StandsAt}
 use Rattle.tx_check.specs.declared.places.Part.TheVariants as parts
-use Rattle.tx_plain.specs.MeantLines.{left_of, OwnsFrom}
+use Rattle.tx_translate.specs.MeantLines.{left_of, OwnsFrom}
 use Rattle.tx_check.proofs.checks.place_of.Given as goal
 
 abbrev pub invariant-loop-before : goal.invariant-loop-before

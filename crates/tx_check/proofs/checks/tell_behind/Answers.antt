@@ -8,7 +8,7 @@ use Rattle.tx_check.proofs.Standing.{line_there, stands_later}
 use Rattle.tx_check.proofs.ToldBehind.{none_left, none_more, none_past, told_to}
 use Rattle.tx_lines.specs.Schedule.{first_line}
 use Rattle.tx_check.proofs.ToldFirst.{grows_none, grows_on}
-use Rattle.tx_plain.specs.MeantLines.{left_of}
+use Rattle.tx_translate.specs.MeantLines.{left_of}
 use Rattle.tx_check.proofs.checks.tell_behind.Goals as goal
 
 pub loop-before-init : goal.loop-before-init

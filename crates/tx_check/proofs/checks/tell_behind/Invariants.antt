@@ -4,8 +4,8 @@ use Rattle.tx_check.specs.Told.{Grows}
 use Rattle.tx_check.specs.Numbered.{after_lines}
 use Rattle.tx_check.specs.OwnLines.{IsFrom}
 use Rattle.tx_check.specs.Stands.{StandsAt}
-use Rattle.tx_plain.specs.Meant.{meant_of, own_line}
-use Rattle.tx_plain.specs.MeantLines.{left_of, OwnsFrom}
+use Rattle.tx_translate.specs.Meant.{meant_of, own_line}
+use Rattle.tx_translate.specs.MeantLines.{left_of, OwnsFrom}
 use Rattle.tx_check.proofs.checks.tell_behind.Given as goal
 
 abbrev pub invariant-loop-before : goal.invariant-loop-before

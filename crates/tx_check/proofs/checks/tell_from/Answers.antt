@@ -14,9 +14,9 @@ use Rattle.tx_check.proofs.Numbered.{lines_more, some_line}
 use Rattle.tx_check.proofs.OwnLines.{moved}
 use Rattle.tx_check.proofs.Standing.{stands_later}
 use Rattle.tx_lines.specs.Schedule.{first_line}
-use Rattle.tx_plain.specs.Meant.{fault_by, meant_of, own_line}
-use Rattle.tx_plain.specs.MeantLines.{left_of, OwnsFrom}
-use Rattle.tx_plain.specs.OwnLines.{without_return}
+use Rattle.tx_translate.specs.Meant.{fault_by, meant_of, own_line}
+use Rattle.tx_translate.specs.MeantLines.{left_of, OwnsFrom}
+use Rattle.tx_translate.specs.OwnLines.{without_return}
 use Rattle.tx_check.proofs.checks.tell_from.Goals as goal
 
 pub moved_to-own-requires : goal.moved_to-own-requires

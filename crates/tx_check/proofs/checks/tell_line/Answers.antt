@@ -4,7 +4,7 @@ use Rattle.tx_check.proofs.OwnLines.{goes_on, is_quiet, is_told}
 use Rattle.tx_check.proofs.Standing.{wrong_line}
 use Rattle.tx_check.proofs.ToldFirst.{grows_by, grows_none}
 use Rattle.tx_check.specs.Behind.{IsQuietAt}
-use Rattle.tx_plain.specs.MeantLines.{left_of}
+use Rattle.tx_translate.specs.MeantLines.{left_of}
 use Rattle.tx_check.proofs.checks.tell_line.Goals as goal
 
 pub returns-in_default-clause-goes : goal.returns-in_default-clause-goes

@@ -9,8 +9,8 @@ use Rattle.tx_check.specs.Told.{kind_of_fault, BeginsOfKind, IsMeantFault}
 use Rattle.tx_check.specs.Wrong.{IsWrongBehind, IsWrongToo}
 use Rattle.tx_check.specs.declared.kinds.Kind.{Kind}
 use Rattle.tx_lines.specs.declared.faults.Fault.{Fault}
-use Rattle.tx_plain.specs.Meant.{fault_by, meant_of, own_line}
-use Rattle.tx_plain.specs.MeantLines.{left_of}
+use Rattle.tx_translate.specs.Meant.{fault_by, meant_of, own_line}
+use Rattle.tx_translate.specs.MeantLines.{left_of}
 use Rattle.tx_check.proofs.checks.tell_text.Goals as goal
 
 pub tell_from-requires-clause-own : goal.tell_from-requires-clause-own

@@ -8,8 +8,8 @@ use Rattle.tx_check.specs.Reads.{line_of, Finds}
 use Rattle.tx_check.specs.Wrong.{IsFaultIn, IsWrongBehind}
 use Rattle.tx_check.specs.declared.kinds.Kind.{Kind}
 use Rattle.tx_lines.specs.declared.faults.Fault.{Fault}
-use Rattle.tx_plain.specs.Meant.{meant_of, own_line}
-use Rattle.tx_plain.specs.MeantLines.{left_of}
+use Rattle.tx_translate.specs.Meant.{meant_of, own_line}
+use Rattle.tx_translate.specs.MeantLines.{left_of}
 use Rattle.tx_check.proofs.checks_for.tell_fault.Goals as goal
 
 pub tell_from-requires-clause-own : goal.tell_from-requires-clause-own

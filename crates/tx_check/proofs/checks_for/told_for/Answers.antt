@@ -3,7 +3,7 @@ use Rattle.tx_check.proofs.ToldOf.{are_one, told_right}
 use Rattle.tx_check.specs.Readers.{kind_for, kind_read}
 use Rattle.tx_check.specs.Reads.{IsRead}
 use Rattle.tx_check.specs.declared.kinds.Kind.{Kind}
-use Rattle.tx_plain.specs.Meant.{meant_of}
+use Rattle.tx_translate.specs.Meant.{meant_of}
 use Rattle.tx_check.proofs.checks_for.told_for.Goals as goal
 
 pub returns : goal.returns

@@ -3,7 +3,7 @@ use Rattle.tx_check.specs.Wrong.{NoEnd, Other, TooLong, TooMany}
 use Rattle.tx_check.proofs.Wronged.{between, none_there, on_some, too_many}
 use Rattle.tx_check.proofs.FaultKinds.{same_trouble}
 use Rattle.tx_check.specs.declared.trouble.LineTrouble.TheVariants as troubles
-use Rattle.tx_plain.specs.MeantLines.{left_of}
+use Rattle.tx_translate.specs.MeantLines.{left_of}
 use Rattle.tx_check.proofs.diagnose.trouble_of.Goals as goal
 
 pub returns-then-line-gt-LINE_BYTES-clause-wrong : goal.returns-then-line-gt-LINE_BYTES-clause-wrong

@@ -9,7 +9,7 @@ use Rattle.tx_check.specs.Numbered.{after_lines, behind}
 use Rattle.tx_check.specs.Stands.{stand_after, AtHeader, IsPlaceOf}
 use Rattle.tx_lines.specs.Schedule.{first_line}
 use Rattle.tx_lines.specs.declared.read.header.TextKind.{TextKind}
-use Rattle.tx_plain.specs.MeantLines.{left_of}
+use Rattle.tx_translate.specs.MeantLines.{left_of}
 use Rattle.tx_check.proofs.faults.fault_behind.Goals as goal
 
 pub loop-own-init : goal.loop-own-init

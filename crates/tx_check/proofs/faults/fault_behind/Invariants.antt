@@ -3,7 +3,7 @@ use Rattle.tx_check.proofs.SoFar.{SoFar}
 use Rattle.tx_check.specs.Numbered.{after_lines}
 use Rattle.tx_check.specs.Stands.{StandsAt}
 use Rattle.tx_check.specs.declared.places.Part.TheVariants as parts
-use Rattle.tx_plain.specs.MeantLines.{left_of}
+use Rattle.tx_translate.specs.MeantLines.{left_of}
 use Rattle.tx_check.proofs.faults.fault_behind.Given as goal
 
 abbrev pub invariant-loop-own : goal.invariant-loop-own

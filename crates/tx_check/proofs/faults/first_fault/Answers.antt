@@ -5,7 +5,7 @@ use Rattle.tx_check.specs.Reads.{Finds}
 use Rattle.tx_check.specs.declared.kinds.Kind.{Kind}
 use Rattle.tx_lines.specs.Schedule.{FaultsAtHeader}
 use Rattle.tx_lines.specs.declared.read.header.TextKind.{TextKind}
-use Rattle.tx_plain.specs.MeantLines.{left_of}
+use Rattle.tx_translate.specs.MeantLines.{left_of}
 use Rattle.tx_check.proofs.faults.first_fault.Goals as goal
 
 pub returns-in-Program-clause-finds : goal.returns-in-Program-clause-finds

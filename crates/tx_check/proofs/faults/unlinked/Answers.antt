@@ -3,7 +3,7 @@ use Rattle.tx_check.proofs.Labelled.{counts}
 use Rattle.tx_check.proofs.Linked.{few_linked, linked_all, linked_fault, linked_first, linked_next, next_line, LinkedSoFar}
 use Rattle.tx_check.proofs.ShortLines.{short_line}
 use Rattle.tx_check.specs.Wrong.{IsNamedNowhere}
-use Rattle.tx_plain.specs.MeantLines.{left_of}
+use Rattle.tx_translate.specs.MeantLines.{left_of}
 use Rattle.tx_check.proofs.faults.unlinked.Goals as goal
 
 pub loop-line-init : goal.loop-line-init

@@ -1,7 +1,7 @@
 use Rattle.std.proofs.Common.{◌≡◌, ◌∙◌, ◌∷◌, ◌++◌, [], List, ℕ, ap, rules, sym, true}
 use Rattle.tx_check.proofs.FirstLines.{header_spelled, header_wrong}
 use Rattle.tx_lines.specs.Schedule.{first_line}
-use Rattle.tx_plain.specs.MeantLines.{left_of}
+use Rattle.tx_translate.specs.MeantLines.{left_of}
 use Rattle.tx_check.proofs.heads.header_of.Goals as goal
 
 pub returns-in-Ok : goal.returns-in-Ok

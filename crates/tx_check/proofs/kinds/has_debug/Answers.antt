@@ -5,7 +5,7 @@ use Rattle.tx_check.specs.Kinds.{begins_with_debug, debug_ahead, has_debug}
 use Rattle.tx_check.proofs.SoFar.{debug_behind, not_debug}
 use Rattle.tx_lines.specs.Schedule.{first_line}
 use Rattle.tx_lines.specs.Walks.{debug_line}
-use Rattle.tx_plain.specs.MeantLines.{left_of}
+use Rattle.tx_translate.specs.MeantLines.{left_of}
 use Rattle.tx_check.proofs.kinds.has_debug.Goals as goal
 
 pub returns-then-is_debug : goal.returns-then-is_debug

@@ -1,6 +1,6 @@
 use Rattle.std.proofs.Common.{◌≡◌, length}
 use Rattle.tx_check.specs.Kinds.{debug_ahead}
-use Rattle.tx_plain.specs.MeantLines.{left_of}
+use Rattle.tx_translate.specs.MeantLines.{left_of}
 use Rattle.tx_check.proofs.kinds.has_debug.Given as goal
 
 abbrev pub invariant-loop-line : goal.invariant-loop-line

@@ -2,7 +2,7 @@ use Rattle.std.proofs.Common.{◌≡◌, ◌∙◌, true, false, ap, refl, sym}
 use Rattle.tx_check.specs.Kinds.{debug_ahead, has_debug, is_program_head}
 use Rattle.tx_check.proofs.SoFar.{debug_behind}
 use Rattle.tx_lines.specs.Schedule.{first_line}
-use Rattle.tx_plain.specs.MeantLines.{left_of}
+use Rattle.tx_translate.specs.MeantLines.{left_of}
 use Rattle.tx_check.proofs.kinds.kind_of.Goals as goal
 
 pub returns-then-has_debug : goal.returns-then-has_debug

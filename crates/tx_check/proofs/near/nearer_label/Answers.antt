@@ -2,7 +2,7 @@ use Rattle.std.proofs.Common.{◌++◌, ◌∷◌, [], List, ℕ, option_map, su
 use Rattle.tx_check.proofs.FaultKinds.{ok_map}
 use Rattle.tx_check.proofs.NearNames.{with_label_name}
 use Rattle.tx_check.specs.Near.{near, with_name, FindsNear}
-use Rattle.tx_plain.specs.MeantLines.{line_of}
+use Rattle.tx_translate.specs.MeantLines.{line_of}
 use Rattle.tx_check.proofs.near.nearer_label.Goals as goal
 
 pub returns-in-Some : goal.returns-in-Some

@@ -3,7 +3,7 @@ use Rattle.tx_check.proofs.NearNames.{names_more}
 use Rattle.tx_check.specs.Near.{label_names, near, with_name, FindsNear}
 use Rattle.tx_check.specs.Numbered.{after_lines, behind}
 use Rattle.tx_lines.specs.Schedule.{first_line}
-use Rattle.tx_plain.specs.MeantLines.{left_of, line_of}
+use Rattle.tx_translate.specs.MeantLines.{left_of, line_of}
 use Rattle.tx_check.proofs.near.nearest_label.Goals as goal
 
 pub loop-line-preserved : goal.loop-line-preserved

@@ -1,7 +1,7 @@
 use Rattle.std.proofs.Common.{length, option_map}
 use Rattle.tx_check.proofs.NearNames.{SoughtNear}
 use Rattle.tx_check.specs.Near.{near}
-use Rattle.tx_plain.specs.MeantLines.{left_of}
+use Rattle.tx_translate.specs.MeantLines.{left_of}
 use Rattle.tx_check.proofs.near.nearest_label.Given as goal
 
 abbrev pub invariant-loop-line : goal.invariant-loop-line

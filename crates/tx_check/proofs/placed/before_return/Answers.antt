@@ -1,6 +1,6 @@
 use Rattle.std.proofs.Common.{◌∙◌, ap, sym}
 use Rattle.tx_check.proofs.SaidWords.{before_return, no_return}
-use Rattle.tx_plain.specs.OwnLines.{without_return}
+use Rattle.tx_translate.specs.OwnLines.{without_return}
 use Rattle.tx_check.proofs.placed.before_return.Goals as goal
 
 pub returns-in-Some-clause-same : goal.returns-in-Some-clause-same

@@ -1,6 +1,6 @@
 use Rattle.std.proofs.Common.{inr, refl}
 use Rattle.tx_check.proofs.NextLines.{header_right}
-use Rattle.tx_plain.specs.MeantLines.{left_of}
+use Rattle.tx_translate.specs.MeantLines.{left_of}
 use Rattle.tx_check.proofs.places.version_of.Goals as goal
 
 pub returns-in-Err : goal.returns-in-Err

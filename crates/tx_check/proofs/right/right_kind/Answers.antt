@@ -1,8 +1,8 @@
 use Rattle.tx_check.proofs.OwnKinds.{own_kind}
 use Rattle.tx_check.specs.declared.kinds.Kind.TheVariants as kinds
-use Rattle.tx_plain.specs.Meant.{meant_of}
-use Rattle.tx_plain.specs.MeantTexts.{MeansText}
-use Rattle.tx_plain.specs.declared.texts.Text.TheVariants as found
+use Rattle.tx_translate.specs.Meant.{meant_of}
+use Rattle.tx_translate.specs.MeantTexts.{MeansText}
+use Rattle.tx_translate.specs.declared.texts.Text.TheVariants as found
 use Rattle.tx_check.proofs.right.right_kind.Goals as goal
 
 pub returns-in-Ok-Some-Schedule-clause-read : goal.returns-in-Ok-Some-Schedule-clause-read

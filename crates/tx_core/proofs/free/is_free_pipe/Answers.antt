@@ -1,6 +1,6 @@
 use Rattle.std.proofs.Common.{is_none}
 use Rattle.tx_core.proofs.FreeNumbers.{free_else, free_then, no_pipe}
-use Rattle.tx_live.specs.Content.{view_of}
+use Rattle.tx_content.specs.Content.{view_of}
 use Rattle.tx_model.specs.FreeNumbers.{is_reserved_from}
 use Rattle.tx_model.specs.State.{Pipe}
 use Rattle.tx_model.specs.View.{present}

@@ -2,7 +2,7 @@ use Rattle.std.proofs.Common.{◌≡◌, ℕ, true, ◌&&◌, option_map, sym, �
 use Rattle.std.specs.Cmp.Derive.{both_true}
 use Rattle.tx_core.proofs.LeastNumbers.{least_none, least_some}
 use Rattle.tx_core.specs.Free.{desc_number}
-use Rattle.tx_live.specs.Content.{view_of}
+use Rattle.tx_content.specs.Content.{view_of}
 use Rattle.tx_model.specs.FreeNumbers.{is_free_description, is_other_than}
 use Rattle.tx_core.proofs.free.least_description.Goals as goal
 

@@ -1,7 +1,7 @@
 use Rattle.std.proofs.Common.{◌&&◌, option_map}
 use Rattle.tx_core.proofs.LeastNumbers.{NoneBelow}
 use Rattle.tx_core.specs.Free.{desc_number}
-use Rattle.tx_live.specs.Content.{view_of}
+use Rattle.tx_content.specs.Content.{view_of}
 use Rattle.tx_model.specs.FreeNumbers.{is_free_description, is_other_than}
 use Rattle.tx_core.proofs.free.least_description.Given as goal
 

@@ -1,6 +1,6 @@
 use Rattle.std.proofs.Common.{Some}
 use Rattle.tx_core.proofs.LeastNumbers.{two_least}
-use Rattle.tx_live.specs.Content.{view_of}
+use Rattle.tx_content.specs.Content.{view_of}
 use Rattle.tx_model.specs.FreeNumbers.{is_free_description}
 use Rattle.tx_core.proofs.free.least_descriptions.Goals as goal
 

@@ -1,6 +1,6 @@
 use Rattle.std.proofs.Common.{arith, sym, ◌∙◌}
 use Rattle.tx_core.proofs.LeastNumbers.{least_none, least_some}
-use Rattle.tx_live.specs.Content.{view_of}
+use Rattle.tx_content.specs.Content.{view_of}
 use Rattle.tx_model.specs.FreeNumbers.{is_free_pipe}
 use Rattle.tx_core.proofs.free.least_pipe.Goals as goal
 

@@ -1,5 +1,5 @@
 use Rattle.tx_core.proofs.LeastNumbers.{NoneBelow}
-use Rattle.tx_live.specs.Content.{view_of}
+use Rattle.tx_content.specs.Content.{view_of}
 use Rattle.tx_model.specs.FreeNumbers.{is_free_pipe}
 use Rattle.tx_core.proofs.free.least_pipe.Given as goal
 

@@ -1,7 +1,7 @@
 use Rattle.std.proofs.Common.{◌≡◌, arith, length, sym, ◌∙◌}
 use Rattle.tx_core.proofs.Reading.{width_read}
 use Rattle.tx_core.proofs.LeastNumbers.{least_none, least_some}
-use Rattle.tx_live.specs.Content.{view_of}
+use Rattle.tx_content.specs.Content.{view_of}
 use Rattle.tx_model.specs.FreeNumbers.{is_free_process}
 use Rattle.tx_core.proofs.free.least_process.Goals as goal
 

@@ -1,5 +1,5 @@
 use Rattle.std.proofs.Common.{◌≡◌, take, []}
-use Rattle.tx_live.specs.Content.{view_of}
+use Rattle.tx_content.specs.Content.{view_of}
 use Rattle.tx_core.specs.Runs.{RunsFrom}
 use Rattle.tx_model.specs.State.{State}
 use Rattle.tx_model.specs.View.{view}

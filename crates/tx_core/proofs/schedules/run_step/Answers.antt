@@ -1,7 +1,7 @@
 use Rattle.std.proofs.Common.{◌≡◌, ◌++◌, ◌∷◌, List, [], sym, subst, ◌∙◌, ap, reverse, true≢false}
 use Rattle.tx_base.specs.declared.steps.Accepted.{Accepted}
 use Rattle.tx_base.specs.declared.steps.Step.{Step}
-use Rattle.tx_live.specs.Content.{view_of}
+use Rattle.tx_content.specs.Content.{view_of}
 use Rattle.tx_core.specs.Runs.{RunsFrom}
 use Rattle.tx_model.specs.Answer.{IsAccepted}
 use Rattle.tx_core.proofs.SoFar.{run_accepted, run_refused, answered_of, accepted_not}

@@ -1,7 +1,7 @@
 use Rattle.std.proofs.Common.{◌≡◌, ◌≤◌, length}
 use Rattle.tx_expect.specs.Comments.{comment_from}
 use Rattle.tx_expect.proofs.CommentParts.{within}
-use Rattle.tx_plain.specs.declared.reading.Reading.TheVariants.{InString}
+use Rattle.tx_translate.specs.declared.reading.Reading.TheVariants.{InString}
 use Rattle.tx_expect.proofs.comments.behind_string.Given as goal
 
 abbrev pub invariant-loop-byte : goal.invariant-loop-byte

@@ -1,7 +1,7 @@
 use Rattle.std.proofs.Common.{◌≡◌, ◌≤◌, ◌+◌, length, string_bytes}
 use Rattle.tx_expect.specs.Outcomes.{state_lines}
 use Rattle.tx_expect.specs.States.{state_difference}
-use Rattle.tx_plain.specs.OwnLines.{own_lines}
+use Rattle.tx_translate.specs.OwnLines.{own_lines}
 use Rattle.tx_expect.proofs.states.put_state_difference.Given as goal
 
 abbrev pub invariant-loop-line : goal.invariant-loop-line

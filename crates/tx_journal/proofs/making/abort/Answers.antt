@@ -3,7 +3,7 @@ use Rattle.tx_base.specs.declared.steps.Reply.TheVariants.{Aborted}
 use Rattle.tx_base.specs.declared.steps.Step.TheVariants.{KernelAbort}
 use Rattle.tx_journal.proofs.Aborted.{abort_added, abort_room_entries, abort_room_inverses, abort_some}
 use Rattle.tx_journal.specs.declared.entry.Entry.{Entry}
-use Rattle.tx_live.specs.Content.{view_of}
+use Rattle.tx_content.specs.Content.{view_of}
 use Rattle.tx_model.specs.View.{kernel_status}
 use Rattle.tx_journal.proofs.making.abort.Goals as goal
 

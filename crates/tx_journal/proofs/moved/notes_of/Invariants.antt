@@ -1,7 +1,7 @@
 use Rattle.std.proofs.Common.{◌≡◌, take}
 use Rattle.tx_journal.specs.Entries.{history_of}
 use Rattle.tx_journal.specs.Noted.{noted_back, notes_in}
-use Rattle.tx_live.specs.Content.{view_of}
+use Rattle.tx_content.specs.Content.{view_of}
 use Rattle.tx_model.specs.State.{boot_state}
 use Rattle.tx_model.specs.View.{view}
 use Rattle.tx_journal.proofs.moved.notes_of.Given as goal

@@ -1,4 +1,4 @@
-use Rattle.tx_live.specs.Content.{view_of}
+use Rattle.tx_content.specs.Content.{view_of}
 use Rattle.tx_model.specs.Numbers.{negative}
 use Rattle.tx_model.specs.View.{kernel_status, present}
 use Rattle.tx_journal.proofs.NotesTold.{abort_noted}

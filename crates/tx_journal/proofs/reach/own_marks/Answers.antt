@@ -3,7 +3,7 @@ use Rattle.tx_base.specs.declared.marks.Mark.{Mark}
 use Rattle.tx_journal.proofs.OwnMarks.{all_copied, none_added, none_copied, one_copied, AreCopied}
 use Rattle.tx_journal.proofs.Reaching.{none_at_zero, none_beyond}
 use Rattle.tx_journal.specs.Reach.{own_mark}
-use Rattle.tx_live.specs.Content.{view_of}
+use Rattle.tx_content.specs.Content.{view_of}
 use Rattle.tx_journal.proofs.reach.own_marks.Goals.{in-Some, in_default}
 use Rattle.std.proofs.lemmas.Grind.{common_steps}
 use Rattle.tx_journal.proofs.reach.own_marks.Goals as goal

@@ -1,5 +1,5 @@
 use Rattle.tx_journal.proofs.OwnMarks.{AreCopied}
-use Rattle.tx_live.specs.Content.{view_of}
+use Rattle.tx_content.specs.Content.{view_of}
 use Rattle.tx_journal.proofs.reach.own_marks.Given as goal
 
 abbrev pub invariant-loop-done : goal.invariant-loop-done

@@ -5,7 +5,7 @@ use Rattle.tx_journal.specs.Reach.{is_reached}
 use Rattle.tx_journal.specs.Rows.{row_pieces}
 use Rattle.tx_journal.specs.declared.pieces.Piece.{Piece}
 use Rattle.tx_journal.specs.declared.rows.Row.TheVariants.{Procs}
-use Rattle.tx_live.specs.Content.{view_of}
+use Rattle.tx_content.specs.Content.{view_of}
 use Rattle.tx_journal.proofs.rows.list_reached.Goals as goal
 
 pub returns : goal.returns

@@ -2,7 +2,7 @@ use Rattle.std.proofs.Common.{arith}
 use Rattle.tx_journal.proofs.Chosen.{none_found, one_found, one_passed}
 use Rattle.tx_journal.proofs.Reaching.{small_piece, within_row}
 use Rattle.tx_journal.specs.Reach.{is_reached}
-use Rattle.tx_live.specs.Content.{view_of}
+use Rattle.tx_content.specs.Content.{view_of}
 use Rattle.std.proofs.lemmas.Grind.{common_steps}
 use Rattle.tx_journal.proofs.rows.put_row.Goals as goal
 

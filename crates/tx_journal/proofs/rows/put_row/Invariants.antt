@@ -4,7 +4,7 @@ use Rattle.tx_base.specs.declared.steps.Step.{Step}
 use Rattle.tx_journal.specs.Reach.{is_reached}
 use Rattle.tx_journal.specs.Reaches.{Reaches}
 use Rattle.tx_journal.specs.Rows.{first_pieces}
-use Rattle.tx_live.specs.Content.{view_of}
+use Rattle.tx_content.specs.Content.{view_of}
 use Rattle.tx_journal.proofs.rows.put_row.Given as goal
 
 abbrev pub invariant-loop-number : goal.invariant-loop-number

@@ -1,9 +1,9 @@
 use Rattle.std.proofs.Common.{◌+◌, string_bytes}
 use Rattle.tx_base.specs.Slots.{slot_at}
-use Rattle.tx_live.specs.Content.{view_of}
+use Rattle.tx_content.specs.Content.{view_of}
 use Rattle.tx_model.specs.View.{present}
-use Rattle.tx_text.specs.Txns.{txn_lines}
-use Rattle.tx_text.specs.EachLaws.{upto_none, upto_more}
+use Rattle.tx_state_text.specs.Txns.{txn_lines}
+use Rattle.tx_state_text.specs.EachLaws.{upto_none, upto_more}
 use Rattle.tx_journal.proofs.state.put_txns.Goals as goal
 
 pub loop-done-init : goal.loop-done-init

@@ -2,7 +2,7 @@ use Rattle.std.proofs.Common.{◌+◌}
 use Rattle.tx_base.specs.Slots.{slot_at}
 use Rattle.tx_json.specs.EachLaws.{upto_none, upto_more}
 use Rattle.tx_json.specs.Txns.{mark_item}
-use Rattle.tx_live.specs.Content.{view_of}
+use Rattle.tx_content.specs.Content.{view_of}
 use Rattle.tx_model.specs.View.{present}
 use Rattle.tx_json.proofs.state.put_txns.Goals as goal
 

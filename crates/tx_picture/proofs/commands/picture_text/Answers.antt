@@ -4,7 +4,7 @@ use Rattle.tx_picture.specs.Captions.{captioned_in}
 use Rattle.tx_picture.specs.Excerpts.{drawing_in}
 use Rattle.tx_picture.specs.Grammars.{pictures}
 use Rattle.tx_picture.specs.Pictures.{picture_of}
-use Rattle.tx_plain.specs.Written.{notes_of, Notes}
+use Rattle.tx_translate.specs.Written.{notes_of, Notes}
 use Rattle.tx_picture.proofs.commands.picture_text.Goals as goal
 
 pub returns-clause-answers : goal.returns-clause-answers

@@ -1,7 +1,7 @@
 use Rattle.std.proofs.Common.{◌≡◌, ◌-◌, ◌∙◌, ap, arith, drop, map}
 use Rattle.tx_picture.proofs.Named.{life_more, no_life}
 use Rattle.tx_picture.specs.Names.{lives_from, with_life}
-use Rattle.tx_plain.specs.Written.{name_at}
+use Rattle.tx_translate.specs.Written.{name_at}
 use Rattle.tx_picture.proofs.lives.lives_of.Goals as goal
 
 pub loop-left-init : goal.loop-left-init

@@ -1,6 +1,6 @@
 use Rattle.std.proofs.Common.{◌≡◌, ◌≤◌, drop, length, map}
 use Rattle.tx_picture.specs.Names.{lives_from}
-use Rattle.tx_plain.specs.Written.{name_at}
+use Rattle.tx_translate.specs.Written.{name_at}
 use Rattle.tx_picture.proofs.lives.lives_of.Given as goal
 
 abbrev pub invariant-loop-left : goal.invariant-loop-left

@@ -1,5 +1,5 @@
 use Rattle.std.proofs.Common.{◌≡◌, ◌++◌, map, take, drop}
-use Rattle.tx_live.specs.Content.{view_of}
+use Rattle.tx_content.specs.Content.{view_of}
 use Rattle.tx_picture.specs.Drawings.{holders}
 use Rattle.tx_picture.specs.Spans.{ended_by}
 use Rattle.tx_picture.proofs.walk.end_open.Given as goal

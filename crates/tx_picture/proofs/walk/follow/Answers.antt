@@ -1,4 +1,4 @@
-use Rattle.tx_live.specs.Content.{view_of}
+use Rattle.tx_content.specs.Content.{view_of}
 use Rattle.tx_picture.proofs.Followed.{begun_more, begun_none}
 use Rattle.tx_picture.specs.Drawings.{holders}
 use Rattle.tx_picture.proofs.walk.follow.Goals as goal

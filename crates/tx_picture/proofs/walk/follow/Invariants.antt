@@ -1,5 +1,5 @@
 use Rattle.std.proofs.Common.{◌≡◌}
-use Rattle.tx_live.specs.Content.{view_of}
+use Rattle.tx_content.specs.Content.{view_of}
 use Rattle.tx_picture.specs.Drawings.{holders}
 use Rattle.tx_picture.specs.Spans.{begun_upto}
 use Rattle.tx_picture.proofs.walk.follow.Given as goal

@@ -1,5 +1,5 @@
 use Rattle.std.proofs.Common.{sym, true≢false}
-use Rattle.tx_live.specs.Content.{view_of}
+use Rattle.tx_content.specs.Content.{view_of}
 use Rattle.tx_script.proofs.Reported.{after_reply, replied_answer}
 use Rattle.tx_script.proofs.answered.make_step.Goals as goal
 

@@ -1,11 +1,11 @@
 use Rattle.std.proofs.Common.{◌++◌, List, [], ap, ◌∙◌, ℕ}
 use Rattle.tx_base.specs.declared.steps.Step.{Step}
-use Rattle.tx_live.specs.Content.{view_of}
+use Rattle.tx_content.specs.Content.{view_of}
 use Rattle.tx_model.specs.Schedules.{answers_of, history_of}
 use Rattle.tx_model.specs.View.{View, view}
 use Rattle.tx_script.proofs.Reported.{after_nothing}
 use Rattle.tx_script.specs.Report.{lines_text, start_state}
-use Rattle.tx_text.specs.State.{state_text}
+use Rattle.tx_state_text.specs.State.{state_text}
 use Rattle.tx_script.proofs.reports.report.Goals as goal
 
 pub returns-clause-text : goal.returns-clause-text

@@ -1,7 +1,7 @@
 use Rattle.std.proofs.Common.{◌≡◌, ◌++◌, ◌∙◌, OnOk, string_bytes, subst}
 use Rattle.tx_model.specs.View.{View}
 use Rattle.tx_script.proofs.StepsMade.{shown_at}
-use Rattle.tx_text.specs.State.{state_text}
+use Rattle.tx_state_text.specs.State.{state_text}
 use Rattle.tx_script.proofs.responses.put_response.Goals as goal
 
 pub returns-in-State : goal.returns-in-State

@@ -1,6 +1,6 @@
 //! Reports as JSON what live transactions have reserved, and what would be without one.
 ghost use Rattle.std.specs.Prelude.{◌≡◌, ◌++◌, ◌<◌, OnOk};
-ghost use Rattle.tx_live.specs.Content.{view_of};
+ghost use Rattle.tx_content.specs.Content.{view_of};
 ghost use Rattle.tx_waits.specs.Kinds.{limit_of};
 ghost use Rattle.tx_shell.specs.Members.{listed_item, owned_member, owner_item, owner_member, owners_member};
 ghost use Rattle.tx_shell.specs.Owners.{owns_one};

@@ -1,6 +1,6 @@
 use Rattle.std.proofs.Common.{refl}
 use Rattle.tx_laws.specs.TwoStates.{states_view}
-use Rattle.tx_live.specs.Content.{view_of}
+use Rattle.tx_content.specs.Content.{view_of}
 use Rattle.tx_step.proofs.Aborted.{kernel_taken, live_txn}
 use Rattle.tx_step.proofs.aborts.take_kernel_abort.Goals as goal
 

@@ -1,6 +1,6 @@
 use Rattle.std.proofs.Common.{sym, ap, ◌∙◌}
 use Rattle.tx_base.specs.Slots.{slot_at}
-use Rattle.tx_live.specs.Content.{view_of}
+use Rattle.tx_content.specs.Content.{view_of}
 use Rattle.tx_model.specs.View.{event_on, role_on}
 use Rattle.tx_step.proofs.StepAnswers.{abort_none, answers_made, idle_none, live_marked, not_named, runs_seen}
 use Rattle.tx_step.proofs.Taken.{running_in}

@@ -1,6 +1,6 @@
 use Rattle.std.proofs.Common.{sym, ap, not, true, false, ◌∙◌}
 use Rattle.tx_base.specs.declared.steps.Step.{Step}
-use Rattle.tx_live.specs.Content.{view_of}
+use Rattle.tx_content.specs.Content.{view_of}
 use Rattle.tx_step.proofs.StepAnswers.{dead_none, kernel_none, live_told}
 use Rattle.tx_step.specs.TwoAnswers.{two_answers}
 use Rattle.tx_step.proofs.differing.two_answers.Goals as goal

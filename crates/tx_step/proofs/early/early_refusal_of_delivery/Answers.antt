@@ -2,7 +2,7 @@ use Rattle.std.proofs.Common.{None, Bool, refl, ap, ◌∙◌}
 use Rattle.tx_base.specs.declared.steps.Step.TheVariants.{Deliver}
 use Rattle.tx_step.proofs.Refusals.{not_run, who_runs}
 use Rattle.tx_step.specs.Early.{own_refusal}
-use Rattle.tx_live.specs.Content.{view_of}
+use Rattle.tx_content.specs.Content.{view_of}
 use Rattle.tx_step.proofs.early.early_refusal_of_delivery.Goals as goal
 
 pub returns-in-Err : goal.returns-in-Err

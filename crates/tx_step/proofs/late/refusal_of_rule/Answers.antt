@@ -4,7 +4,7 @@ use Rattle.tx_step.proofs.LateTold.{call_told, delivery_told, note_told}
 use Rattle.tx_step.specs.Late.{TellsRule}
 use Rattle.tx_kernel.specs.Acts.{event_of}
 use Rattle.tx_kernel.specs.declared.events.Act.{Act}
-use Rattle.tx_live.specs.Content.{now_of}
+use Rattle.tx_content.specs.Content.{now_of}
 use Rattle.tx_model.specs.Membership.{inside_by}
 use Rattle.tx_txn.specs.Marks.{table_at}
 use Rattle.tx_step.proofs.late.refusal_of_rule.Goals as goal

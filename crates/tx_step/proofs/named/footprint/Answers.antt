@@ -1,4 +1,4 @@
-use Rattle.tx_live.specs.Content.{held_of}
+use Rattle.tx_content.specs.Content.{held_of}
 use Rattle.tx_step.proofs.StepFootprints.{set_seen}
 use Rattle.tx_step.proofs.named.footprint.Goals as goal
 

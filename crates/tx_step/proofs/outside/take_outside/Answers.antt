@@ -1,8 +1,8 @@
 use Rattle.std.proofs.Common.{sym, subst}
 use Rattle.tx_base.specs.Slots.{slot_at}
 use Rattle.tx_step.specs.declared.roles.StepRole.TheVariants as role
-use Rattle.tx_live.specs.Made.{IsRunning}
-use Rattle.tx_live.specs.declared.content.Content.{Content}
+use Rattle.tx_content.specs.Made.{IsRunning}
+use Rattle.tx_content.specs.declared.content.Content.{Content}
 use Rattle.tx_step.proofs.OutsideTaken.{refused, taken, unowned, was_refused}
 use Rattle.tx_step.proofs.RefusedSteps.{of_process}
 use Rattle.tx_step.proofs.Taken.{runs}

@@ -1,6 +1,6 @@
 use Rattle.std.proofs.Common.{sym, ap, subst, ◌∙◌, refl}
 use Rattle.std.specs.Option.{option_copied}
-use Rattle.tx_live.specs.ContentFacts.{is_covered}
+use Rattle.tx_content.specs.ContentFacts.{is_covered}
 use Rattle.tx_txn.specs.Marks.{IsCovered}
 use Rattle.tx_txn.specs.declared.txn.Txn.{Txn}
 use Rattle.tx_step.proofs.roles.is_last_part.Goals as goal

@@ -1,6 +1,6 @@
 use Rattle.std.proofs.Common.{◌∙◌, ap, sym}
 use Rattle.tx_model.specs.View.{event_on}
-use Rattle.tx_live.specs.Content.{view_of}
+use Rattle.tx_content.specs.Content.{view_of}
 use Rattle.tx_step.proofs.Idle.{idle_clear}
 use Rattle.tx_step.proofs.RefusedSteps.{runs_early}
 use Rattle.tx_step.specs.Requests.{step_of}

@@ -1,6 +1,6 @@
 use Rattle.std.proofs.Common.{refl, sym, ap, ◌∙◌}
 use Rattle.std.specs.Option.{option_copied}
-use Rattle.tx_live.specs.ContentFacts.{is_actor}
+use Rattle.tx_content.specs.ContentFacts.{is_actor}
 use Rattle.tx_step.proofs.ways.actor_of.Goals as goal
 
 pub returns : goal.returns

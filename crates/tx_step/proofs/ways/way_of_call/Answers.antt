@@ -5,8 +5,8 @@ use Rattle.tx_step.proofs.OwnWays.{own_quiet, own_set}
 use Rattle.tx_step.proofs.WaysTold.{aborted, call_member, footprint_is, not_abort}
 use Rattle.tx_step.specs.InWay.{IsOfMember}
 use Rattle.tx_step.specs.Roles.{role_as}
-use Rattle.tx_live.specs.Content.{view_of}
-use Rattle.tx_live.specs.Insides.{IsFootprint}
+use Rattle.tx_content.specs.Content.{view_of}
+use Rattle.tx_content.specs.Insides.{IsFootprint}
 use Rattle.tx_model.specs.Events.{Event, Note}
 use Rattle.tx_model.specs.Words.{called_by_status}
 use Rattle.tx_model.specs.Numbers.{negative}

@@ -2,7 +2,7 @@ use Rattle.std.proofs.Common.{refl}
 use Rattle.std.specs.Option.{option_copied}
 use Rattle.tx_base.specs.declared.steps.Step.TheVariants.{Deliver}
 use Rattle.tx_step.proofs.WaysTold.{delivery_member, delivery_no_abort, delivery_posted, delivery_set, footprint_is}
-use Rattle.tx_live.specs.Content.{view_of}
+use Rattle.tx_content.specs.Content.{view_of}
 use Rattle.tx_model.specs.View.{event_on}
 use Rattle.tx_step.proofs.ways.way_of_delivery.Goals as goal
 

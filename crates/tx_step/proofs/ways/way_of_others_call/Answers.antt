@@ -1,7 +1,7 @@
 use Rattle.std.specs.Option.{option_copied}
 use Rattle.tx_base.specs.declared.steps.Step.TheVariants.{Call as Calls}
 use Rattle.tx_step.proofs.WaysTold.{call_member, call_posted, call_set, footprint_is}
-use Rattle.tx_live.specs.Content.{view_of}
+use Rattle.tx_content.specs.Content.{view_of}
 use Rattle.tx_model.specs.View.{event_on}
 use Rattle.tx_step.proofs.ways.way_of_others_call.Goals as goal
 

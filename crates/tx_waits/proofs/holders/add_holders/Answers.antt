@@ -1,6 +1,6 @@
 use Rattle.std.proofs.Common.{◌≡◌, ◌∙◌, ◌++◌, arith}
 use Rattle.tx_change.specs.States.{state_of}
-use Rattle.tx_live.specs.Content.{held_of, view_of}
+use Rattle.tx_content.specs.Content.{held_of, view_of}
 use Rattle.tx_model.specs.View.{present}
 use Rattle.tx_waits.proofs.Gathered.{below_more, below_none}
 use Rattle.tx_waits.specs.Holders.{each_below, holders_in, is_sought}

@@ -1,7 +1,7 @@
 use Rattle.tx_desc.specs.Descriptions.{end_for}
 use Rattle.tx_waits.proofs.Gathered.{below_more, below_none}
 use Rattle.tx_waits.specs.Holders.{named_holders}
-use Rattle.tx_live.specs.Content.{view_of}
+use Rattle.tx_content.specs.Content.{view_of}
 use Rattle.tx_waits.proofs.holders.side_holders.Goals as goal
 use Rattle.std.proofs.Common.{[], ◌∙◌}
 

@@ -1,6 +1,6 @@
 use Rattle.std.proofs.Common.{◌≡◌, ◌-◌, drop}
 use Rattle.std.specs.List.{find}
-use Rattle.tx_live.specs.Content.{view_of}
+use Rattle.tx_content.specs.Content.{view_of}
 use Rattle.tx_workers.specs.Turns.{all_after, is_next_of, next_process}
 use Rattle.tx_workers.proofs.next.next_process.Given as goal
 

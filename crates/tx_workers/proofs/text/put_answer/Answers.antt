@@ -5,7 +5,7 @@ use Rattle.std.specs.Fmt.{signed_decimal}
 use Rattle.std.specs.Int.{w64}
 use Rattle.std.specs.Prelude.{FitsSigned, OnOk}
 use Rattle.tx_base.specs.declared.steps.Reply.{Reply}
-use Rattle.tx_text.specs.Replies.{reply_text}
+use Rattle.tx_state_text.specs.Replies.{reply_text}
 use Rattle.tx_workers.proofs.text.put_answer.Goals as goal
 
 pub returns-then-ret-eq0 : goal.returns-then-ret-eq0

@@ -1,6 +1,6 @@
 use Rattle.std.proofs.Common.{refl}
 use Rattle.tx_check.proofs.NamedLabels.{names_nowhere}
-use Rattle.tx_plain.specs.MeantLines.{left_of}
+use Rattle.tx_translate.specs.MeantLines.{left_of}
 use Rattle.tx_check.proofs.diagnose.labels.link_trouble.Goals as goal
 
 pub returns-then-is_unlinked-clause-nowhere : goal.returns-then-is_unlinked-clause-nowhere

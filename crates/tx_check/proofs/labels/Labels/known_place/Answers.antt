@@ -3,7 +3,7 @@ use Rattle.std.proofs.lemmas.Bool.{both_ways}
 use Rattle.tx_check.proofs.KnownLabels.{first_named, next_known, no_known_left, SoughtTo}
 use Rattle.tx_check.specs.Labels.{label_at}
 use Rattle.tx_check.specs.declared.labels.LabelLine.{LabelLine}
-use Rattle.tx_plain.specs.MeantLines.{left_of}
+use Rattle.tx_translate.specs.MeantLines.{left_of}
 use Rattle.tx_check.proofs.labels.Labels.known_place.Goals as goal
 
 pub returns-then-means_label-clause-first : goal.returns-then-means_label-clause-first

@@ -1,6 +1,6 @@
 use Rattle.std.proofs.Common.{ap, length}
 use Rattle.tx_check.proofs.LineParts.{no_other}
-use Rattle.tx_plain.specs.MeantLines.{left_of}
+use Rattle.tx_translate.specs.MeantLines.{left_of}
 use Rattle.tx_check.proofs.labels.Labels.later_place.Goals as goal
 
 pub returns-clause-none : goal.returns-clause-none

@@ -4,7 +4,7 @@ use Rattle.tx_check.proofs.Numbered.{lines_more}
 use Rattle.tx_check.specs.Labels.{labels_in, with_label}
 use Rattle.tx_check.specs.Numbered.{after_lines, behind}
 use Rattle.tx_lines.specs.Schedule.{first_line}
-use Rattle.tx_plain.specs.MeantLines.{left_of, line_of}
+use Rattle.tx_translate.specs.MeantLines.{left_of, line_of}
 use Rattle.tx_check.proofs.labels.Labels.of.Goals as goal
 
 pub loop-line-preserved : goal.loop-line-preserved

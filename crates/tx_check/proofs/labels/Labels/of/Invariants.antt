@@ -1,7 +1,7 @@
 use Rattle.std.proofs.Common.{◌≡◌, ◌+◌, ◌≤◌, length, map}
 use Rattle.tx_check.specs.Labels.{label_at, labels_in}
 use Rattle.tx_check.specs.Numbered.{after_lines}
-use Rattle.tx_plain.specs.MeantLines.{left_of}
+use Rattle.tx_translate.specs.MeantLines.{left_of}
 use Rattle.tx_check.proofs.labels.Labels.of.Given as goal
 
 abbrev pub invariant-loop-line : goal.invariant-loop-line

@@ -1,8 +1,8 @@
 use Rattle.std.proofs.Common.{ap, map, ◌∙◌}
 use Rattle.tx_core.proofs.Reading.{state_read}
 use Rattle.tx_kernel.specs.Plans.{sending_of}
-use Rattle.tx_live.specs.Content.{held_in, view_of}
-use Rattle.tx_live.specs.declared.content.Content.{Content}
+use Rattle.tx_content.specs.Content.{held_in, view_of}
+use Rattle.tx_content.specs.declared.content.Content.{Content}
 use Rattle.tx_model.specs.State.{State}
 use Rattle.tx_model.specs.View.{present}
 use Rattle.tx_txn.specs.declared.txn.Txn.{Txn}

@@ -1,6 +1,6 @@
 use Rattle.std.proofs.Common.{◌∙◌}
 use Rattle.tx_core.specs.Owners.{other_owner}
-use Rattle.tx_live.specs.Content.{view_of}
+use Rattle.tx_content.specs.Content.{view_of}
 use Rattle.tx_reserve.specs.Objects.{object_of}
 use Rattle.tx_core.proofs.machine.Machine.other_owner.Goals as goal
 

@@ -1,8 +1,8 @@
 use Rattle.std.proofs.Common.{ap, sym, ◌∙◌}
 use Rattle.tx_change.specs.States.{state_of}
 use Rattle.tx_core.proofs.Reading.{state_read}
-use Rattle.tx_live.specs.Content.{held_of, view_of}
-use Rattle.tx_live.specs.declared.content.Content.{Content}
+use Rattle.tx_content.specs.Content.{held_of, view_of}
+use Rattle.tx_content.specs.declared.content.Content.{Content}
 use Rattle.tx_model.specs.View.{present}
 use Rattle.tx_core.proofs.machine.Machine.parts.Goals as goal
 

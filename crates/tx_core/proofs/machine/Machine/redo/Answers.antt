@@ -1,8 +1,8 @@
 use Rattle.std.proofs.Common.{subst, sym}
 use Rattle.tx_core.proofs.MadeAgain.{ends_whole, goes_again, leads_back, machine_after, made_again, takes_back, undoes_it}
 use Rattle.tx_core.specs.Undo.{LeadsOn}
-use Rattle.tx_live.specs.Crossings.{HoldsForward}
-use Rattle.tx_live.specs.declared.content.Content.{Content}
+use Rattle.tx_content.specs.Crossings.{HoldsForward}
+use Rattle.tx_content.specs.declared.content.Content.{Content}
 use Rattle.tx_core.proofs.machine.Machine.redo.Goals as goal
 
 pub redo-requires : goal.redo-requires

@@ -1,8 +1,8 @@
 use Rattle.std.proofs.Common.{sym, subst}
 use Rattle.tx_core.proofs.MadeAgain.{goes_with, machine_before, taken_back}
 use Rattle.tx_core.specs.Undo.{LeadsBack}
-use Rattle.tx_live.specs.Crossings.{HoldsBack}
-use Rattle.tx_live.specs.declared.content.Content.{Content}
+use Rattle.tx_content.specs.Crossings.{HoldsBack}
+use Rattle.tx_content.specs.declared.content.Content.{Content}
 use Rattle.tx_core.proofs.machine.Machine.take_back.Goals as goal
 
 pub take_back-requires-clause-fits : goal.take_back-requires-clause-fits

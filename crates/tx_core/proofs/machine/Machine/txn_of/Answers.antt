@@ -1,8 +1,8 @@
 use Rattle.std.proofs.Common.{◌∙◌, ap, option_map}
 use Rattle.tx_base.specs.declared.marks.Mark.{Mark}
 use Rattle.tx_core.proofs.Reading.{marks_read}
-use Rattle.tx_live.specs.Content.{view_of}
-use Rattle.tx_live.specs.declared.content.Content.{Content}
+use Rattle.tx_content.specs.Content.{view_of}
+use Rattle.tx_content.specs.declared.content.Content.{Content}
 use Rattle.tx_core.proofs.machine.Machine.txn_of.Goals as goal
 
 pub returns-in-Some : goal.returns-in-Some

@@ -1,7 +1,7 @@
 use Rattle.std.proofs.Common.{◌≡◌, ◌≤◌, ◌+◌, ℕ, List, length}
 use Rattle.tx_expect.specs.Lines.{progress_of, total}
 use Rattle.tx_expect.specs.Outcomes.{after_lines}
-use Rattle.tx_plain.specs.OwnLines.{own_lines}
+use Rattle.tx_translate.specs.OwnLines.{own_lines}
 use Rattle.tx_expect.proofs.judges.Judge.judge_steps.Given as goal
 
 abbrev pub invariant-loop-line : goal.invariant-loop-line

@@ -1,5 +1,5 @@
 use Rattle.std.proofs.Common.{refl, ap, ◌∙◌, arith}
-use Rattle.tx_live.specs.declared.crossing.Crossing.TheVariants.{By}
+use Rattle.tx_content.specs.declared.crossing.Crossing.TheVariants.{By}
 use Rattle.tx_journal.proofs.Turned.{more_inverses, more_parted, more_undone}
 use Rattle.tx_journal.specs.Crossings.{Crossed}
 use Rattle.std.proofs.lemmas.Grind.{common_steps}

@@ -3,8 +3,8 @@ use Rattle.std.specs.Prelude.{vec_capacity}
 use Rattle.tx_core.specs.Undo.{LeadsBack}
 use Rattle.tx_journal.proofs.Turned.{goes_undone, popped_back, popped_parted, popped_undone}
 use Rattle.tx_journal.specs.Crossings.{crossed_in, inverses_in, Crossed, GoesBack}
-use Rattle.tx_live.specs.CrossingFacts.{back_of, is_back}
-use Rattle.tx_live.specs.Crossings.{inverse_at}
+use Rattle.tx_content.specs.CrossingFacts.{back_of, is_back}
+use Rattle.tx_content.specs.Crossings.{inverse_at}
 use Rattle.std.proofs.lemmas.Grind.{common_steps}
 use Rattle.tx_journal.proofs.crossings.Crossings.undo.Goals as goal
 

@@ -4,7 +4,7 @@ use Rattle.tx_base.specs.declared.steps.Step.TheVariants.{KernelAbort}
 use Rattle.tx_journal.proofs.Aheads.{none_answered, none_at_end, nothing_ahead}
 use Rattle.tx_journal.proofs.Kept.{counted_now, kept_answered, sound_now}
 use Rattle.tx_journal.specs.Sessions.{session_state, IsAtEnd}
-use Rattle.tx_live.specs.Content.{view_of}
+use Rattle.tx_content.specs.Content.{view_of}
 use Rattle.tx_model.specs.View.{kernel_status}
 use Rattle.std.proofs.lemmas.Grind.{common_steps}
 use Rattle.tx_journal.proofs.session.Session.kernel_abort.Goals as goal

@@ -4,7 +4,7 @@ use Rattle.tx_journal.proofs.Aheads.{nothing_ahead}
 use Rattle.tx_journal.proofs.Walked.{journal_next}
 use Rattle.tx_journal.specs.Sessions.{session_state, position_of, IsJournal, SessionState}
 use Rattle.tx_journal.specs.declared.entry.Entry.{Entry}
-use Rattle.tx_live.specs.declared.inverse.Inverse.{Inverse}
+use Rattle.tx_content.specs.declared.inverse.Inverse.{Inverse}
 use Rattle.tx_journal.proofs.session.Session.make_next.Goals as goal
 
 pub invariant_of-self-2 : goal.invariant_of-self-2

@@ -3,7 +3,7 @@ use Rattle.std.proofs.lemmas.Result.{IfOk-weaker}
 use Rattle.tx_journal.proofs.Covered.{covered}
 use Rattle.tx_journal.specs.Reach.{reached_pieces, CoverChanges}
 use Rattle.tx_journal.specs.Trials.{shown_at, shown_with}
-use Rattle.tx_live.specs.Content.{view_of}
+use Rattle.tx_content.specs.Content.{view_of}
 use Rattle.tx_journal.proofs.session.Session.pieces_reached.Goals as goal
 
 pub returns : goal.returns

@@ -1,7 +1,7 @@
 use Rattle.std.proofs.Common.{◌≡◌, ◌++◌, length, map}
 use Rattle.tx_picture.specs.Captions.{short}
-use Rattle.tx_plain.specs.Lines.{spaced}
-use Rattle.tx_plain.specs.Words.{words_in}
+use Rattle.tx_translate.specs.Lines.{spaced}
+use Rattle.tx_translate.specs.Words.{words_in}
 use Rattle.tx_picture.proofs.wording.Wording.add_others.Given as goal
 
 abbrev pub invariant-loop-word : goal.invariant-loop-word

@@ -1,6 +1,6 @@
 use Rattle.std.proofs.Common.{None}
 use Rattle.tx_lines.specs.Schedule.{IsFaultOf}
-use Rattle.tx_plain.specs.Meant.{meant_of}
+use Rattle.tx_translate.specs.Meant.{meant_of}
 use Rattle.tx_script.proofs.JsonAnswered.{answers_text, as_schedule, faulted, own_as}
 use Rattle.tx_script.specs.JsonTexts.{texts}
 use Rattle.tx_script.proofs.as_json.texts.schedule_text.Goals as goal

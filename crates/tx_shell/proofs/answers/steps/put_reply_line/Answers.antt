@@ -6,7 +6,7 @@ use Rattle.std.specs.Int.{w64}
 use Rattle.std.specs.Prelude.{FitsSigned, OnOk}
 use Rattle.tx_base.specs.declared.steps.Reply.{Reply}
 use Rattle.tx_base.specs.declared.steps.Reply.TheVariants.{Done}
-use Rattle.tx_text.specs.Replies.{named_reply_text}
+use Rattle.tx_state_text.specs.Replies.{named_reply_text}
 use Rattle.tx_shell.proofs.answers.steps.put_reply_line.Goals as goal
 
 -- the status of an abort that a member asked for

@@ -1,7 +1,7 @@
 use Rattle.std.proofs.Common.{◌≡◌, ◌∙◌, ℕ, List, ◌∷◌, ◌++◌, true, false, ap, arith, codes, refl, sym}
 use Rattle.std.proofs.lemmas.Option.{none-some}
 use Rattle.std.specs.Fmt.{decimal}
-use Rattle.tx_plain.specs.Names.{is_name}
+use Rattle.tx_translate.specs.Names.{is_name}
 use Rattle.tx_shell.proofs.NameAsks.{no_name}
 use Rattle.tx_shell.proofs.TwoNumbers.{number_first, same_first, whole_of}
 use Rattle.tx_shell.proofs.lines.asks.read_name.Goals as goal

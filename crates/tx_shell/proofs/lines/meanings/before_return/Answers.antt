@@ -1,5 +1,5 @@
 use Rattle.std.proofs.Common.{sym, ap, ◌∙◌}
-use Rattle.tx_plain.specs.OwnLines.{without_return}
+use Rattle.tx_translate.specs.OwnLines.{without_return}
 use Rattle.tx_shell.proofs.LineEnds.{before_end, without_end}
 use Rattle.tx_shell.proofs.lines.meanings.before_return.Goals as goal
 

@@ -5,7 +5,7 @@ use Rattle.tx_shell.specs.Blockers.{blocked_of}
 use Rattle.tx_shell.specs.Names.{named}
 use Rattle.tx_shell.specs.Reasons.{blocked_line}
 use Rattle.tx_shell.specs.declared.questions.blockers.Blocker.{Blocker}
-use Rattle.tx_text.specs.Each.{each_text}
+use Rattle.tx_state_text.specs.Each.{each_text}
 use Rattle.tx_shell.proofs.questions.blockers.put_objects.Goals as goal
 
 pub loop-i-preserved : goal.loop-i-preserved

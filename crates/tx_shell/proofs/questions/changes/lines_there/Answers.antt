@@ -2,7 +2,7 @@ use Rattle.std.proofs.Common.{◌∙◌, ◌++◌, List, ℕ, ap}
 use Rattle.tx_base.specs.declared.steps.Accepted.{Accepted}
 use Rattle.tx_journal.specs.Pieces.{piece_text}
 use Rattle.tx_journal.specs.Sessions.{position_of, start_of}
-use Rattle.tx_live.specs.Content.{view_of}
+use Rattle.tx_content.specs.Content.{view_of}
 use Rattle.tx_model.specs.View.{view}
 use Rattle.tx_shell.proofs.Listed.{history_to}
 use Rattle.tx_shell.proofs.questions.changes.lines_there.Goals as goal

@@ -3,7 +3,7 @@ use Rattle.std.proofs.lemmas.Result.{on_ok_weaker}
 use Rattle.std.specs.Fmt.{decimal}
 use Rattle.tx_shell.specs.Holders.{holder_text, next_text}
 use Rattle.tx_shell.specs.Names.{behind_number, named}
-use Rattle.tx_text.specs.Each.{each_text}
+use Rattle.tx_state_text.specs.Each.{each_text}
 use Rattle.tx_shell.proofs.questions.held.put_listed.Goals as goal
 
 in_parts : (before word first others one two : List ℕ) → one ≡ before ++ (word ++ first) → two ≡ one ++ others → two ≡ before ++ (word ++ (first ++ others))

@@ -4,7 +4,7 @@ use Rattle.std.specs.Fmt.{decimal}
 use Rattle.tx_desc.specs.Descriptions.{end_for}
 use Rattle.tx_shell.specs.Holders.{holder_text, next_text, side_word}
 use Rattle.tx_shell.specs.Names.{behind_number, named}
-use Rattle.tx_text.specs.Each.{each_text}
+use Rattle.tx_state_text.specs.Each.{each_text}
 use Rattle.tx_shell.proofs.questions.holders.put_open.Goals as goal
 
 -- what is put in three parts

@@ -1,7 +1,7 @@
 use Rattle.std.proofs.Common.{rules, ◌<◌, ◌≤◌, ◌++◌, ◌∙◌, List, ap, length, string_bytes}
 use Rattle.std.proofs.lemmas.List.{take_all}
 use Rattle.tx_json.specs.declared.holders.Holder.{Holder}
-use Rattle.tx_text.specs.Each.{each_text}
+use Rattle.tx_state_text.specs.Each.{each_text}
 use Rattle.tx_shell.specs.Holders.{next_text}
 use Rattle.tx_shell.specs.Names.{named}
 use Rattle.tx_shell.proofs.Gathered.{each_more}

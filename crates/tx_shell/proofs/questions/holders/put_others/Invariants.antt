@@ -1,5 +1,5 @@
 use Rattle.std.proofs.Common.{◌≡◌, ◌++◌, take, string_bytes}
-use Rattle.tx_text.specs.Each.{each_text}
+use Rattle.tx_state_text.specs.Each.{each_text}
 use Rattle.tx_shell.specs.Names.{named}
 use Rattle.tx_shell.specs.Holders.{next_text}
 use Rattle.tx_shell.proofs.questions.holders.put_others.Given as goal

@@ -1,6 +1,6 @@
 use Rattle.std.proofs.Common.{◌≡◌, ◌∙◌, ap, string_bytes}
 use Rattle.std.proofs.lemmas.Result.{IfOk-weaker}
-use Rattle.tx_live.specs.Content.{view_of}
+use Rattle.tx_content.specs.Content.{view_of}
 use Rattle.tx_shell.proofs.Owned.{told_there}
 use Rattle.tx_shell.specs.Names.{named}
 use Rattle.tx_shell.specs.Owners.{or_no_transaction, owner_lines}

@@ -1,6 +1,6 @@
 use Rattle.std.proofs.Common.{◌≡◌, ℕ, List, ◌∷◌, ◌++◌, ◌∙◌, ap, append_assoc, arith, string_bytes}
 use Rattle.std.proofs.lemmas.Result.{on_ok_weaker}
-use Rattle.tx_live.specs.Content.{view_of}
+use Rattle.tx_content.specs.Content.{view_of}
 use Rattle.tx_shell.proofs.Numbered.{all_numbered, none_numbered, one_numbered}
 use Rattle.tx_waits.specs.Kinds.{limit_of, word_of}
 use Rattle.tx_shell.specs.Names.{named}

@@ -1,5 +1,5 @@
 use Rattle.std.proofs.Common.{string_bytes}
-use Rattle.tx_live.specs.Content.{view_of}
+use Rattle.tx_content.specs.Content.{view_of}
 use Rattle.tx_shell.proofs.Numbered.{NumberedTo}
 use Rattle.tx_shell.specs.Names.{named}
 use Rattle.tx_shell.specs.Owners.{number_said, owns_one}

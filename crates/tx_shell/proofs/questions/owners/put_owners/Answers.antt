@@ -1,8 +1,8 @@
 use Rattle.std.proofs.Common.{◌+◌, string_bytes}
-use Rattle.tx_live.specs.Content.{view_of}
+use Rattle.tx_content.specs.Content.{view_of}
 use Rattle.tx_shell.specs.Names.{named}
 use Rattle.tx_shell.specs.Owners.{owner_line}
-use Rattle.tx_text.specs.EachLaws.{upto_more, upto_none}
+use Rattle.tx_state_text.specs.EachLaws.{upto_more, upto_none}
 use Rattle.tx_shell.proofs.questions.owners.put_owners.Goals as goal
 
 pub loop-done-init : goal.loop-done-init

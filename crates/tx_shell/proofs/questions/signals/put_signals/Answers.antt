@@ -1,5 +1,5 @@
 use Rattle.std.proofs.Common.{string_bytes}
-use Rattle.tx_text.specs.EachLaws.{upto_more, upto_none}
+use Rattle.tx_state_text.specs.EachLaws.{upto_more, upto_none}
 use Rattle.tx_shell.specs.Names.{named}
 use Rattle.tx_shell.specs.Reasons.{signal_line}
 use Rattle.tx_journal.specs.Entries.{history_of}

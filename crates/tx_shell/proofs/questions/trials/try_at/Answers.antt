@@ -1,6 +1,6 @@
 use Rattle.std.proofs.Common.{◌∙◌, ap, map, string_bytes}
 use Rattle.tx_journal.specs.Trials.{shown_at, shown_with}
-use Rattle.tx_live.specs.Content.{view_of}
+use Rattle.tx_content.specs.Content.{view_of}
 use Rattle.tx_shell.proofs.Differed.{views_told}
 use Rattle.tx_shell.proofs.questions.trials.try_at.Goals as goal
 

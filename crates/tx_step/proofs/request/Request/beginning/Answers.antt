@@ -1,6 +1,6 @@
 use Rattle.std.proofs.Common.{None, ap, sym, ◌∙◌}
 use Rattle.tx_laws.specs.Endings.{end_reply}
-use Rattle.tx_live.specs.Content.{view_of}
+use Rattle.tx_content.specs.Content.{view_of}
 use Rattle.tx_model.specs.View.{role_on}
 use Rattle.tx_step.specs.Requests.{step_of}
 use Rattle.tx_step.proofs.Idle.{idle_mark}

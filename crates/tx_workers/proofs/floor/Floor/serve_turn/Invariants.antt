@@ -1,6 +1,6 @@
 use Rattle.std.proofs.Common.{◌≡◌, ◌+◌, ◌≤◌, length, vec_len}
-use Rattle.tx_ready.specs.Hands.{GivesBack}
-use Rattle.tx_ready.specs.Stations.{IsStationOf}
+use Rattle.tx_ready_queue.specs.Hands.{GivesBack}
+use Rattle.tx_ready_queue.specs.Stations.{IsStationOf}
 use Rattle.tx_workers.proofs.floor.Floor.serve_turn.Given as goal
 
 abbrev pub invariant-loop : goal.invariant-loop

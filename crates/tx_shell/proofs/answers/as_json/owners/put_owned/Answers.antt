@@ -1,5 +1,5 @@
 use Rattle.tx_json.specs.EachLaws.{upto_more, upto_none}
-use Rattle.tx_live.specs.Content.{view_of}
+use Rattle.tx_content.specs.Content.{view_of}
 use Rattle.tx_shell.specs.Members.{listed_item}
 use Rattle.tx_shell.specs.Owners.{owns_one}
 use Rattle.tx_shell.proofs.answers.as_json.owners.put_owned.Goals as goal

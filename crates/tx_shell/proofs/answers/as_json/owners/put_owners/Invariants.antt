@@ -1,6 +1,6 @@
 use Rattle.std.proofs.Common.{◌≡◌, ◌+◌, ◌++◌}
 use Rattle.tx_json.specs.Each.{upto}
-use Rattle.tx_live.specs.Content.{view_of}
+use Rattle.tx_content.specs.Content.{view_of}
 use Rattle.tx_shell.specs.Members.{owner_item}
 use Rattle.tx_shell.proofs.answers.as_json.owners.put_owners.Given as goal
 

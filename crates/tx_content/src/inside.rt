@@ -1,0 +1,200 @@
+//! Steps inside a transaction.
+ghost use Rattle.std.specs.Prelude.{◌≡◌, ◌++◌, ◌-◌, true, length, Some, IfErr, IfOk, OnErr, OnOk, IsSome};
+ghost use Rattle.tx_base.specs.Slots.{slot_at};
+ghost use Rattle.tx_kernel.specs.Actors.{IsWhole};
+ghost use Rattle.tx_kernel.specs.Acts.{event_of};
+ghost use Rattle.tx_content.specs.Content.{content_of, view_of, IsShaped};
+ghost use Rattle.tx_content.specs.Insides.{handed_out, inside_in, is_handed_out, unmade_of, IsFootprint, IsFree, MakesIn, RefusesIn, StepsIn};
+ghost use Rattle.tx_content.specs.Made.{Answers, IsMade, IsRunning, RefusesStep};
+ghost use Rattle.tx_content.specs.Progresses.{part_of, HasChild};
+ghost use Rattle.tx_laws.specs.Fits.{Fits};
+ghost use Rattle.tx_model.specs.Membership.{Within};
+ghost use Rattle.tx_txn.specs.Content.{IsKept};
+ghost use Rattle.tx_txn.specs.Txns.{Owns};
+
+use crate::content::Content;
+use crate::inverse::Inverse;
+use crate::laws::laws;
+use crate::marking::{Progress, mark_progress};
+use crate::planning::plan;
+use std::alloc::Global;
+use tx_base::{Mark, NoMemory, Pid, Refusal, Slots};
+use tx_change::Parts;
+use tx_kernel::{Act, Outcome, Planned, Sends};
+use tx_reserve::{Objects, Reservations};
+use tx_txn::{Outbox, Txn};
+
+impl Content {
+    /// Makes the act of a member that runs, in the starter's transaction, which is live after it.
+    /// The footprint is that of the step, and no other transaction owns any of it. Answers its
+    /// outcome, and puts its inverse into its place.
+    ///
+    /// Refuses as its plan does, and with NoMemory if there is no room for what it hands out; the
+    /// content is then as it was.
+    pub fn make_inside(
+        &mut self,
+        alloc: Global,
+        pid: Pid,
+        starter: Pid,
+        act: &Act,
+        progress: Progress,
+        footprint: &Objects,
+        inverse: &mut Inverse,
+    ) -> Result<Outcome, Refusal>
+        requires shaped { IsShaped self.old }
+        requires kept { IsKept (content_of self.old) }
+        requires whole { IsWhole self.old.parts }
+        requires running { IsRunning (slot_at self.old.parts.procs pid.0) }
+        requires live { IsSome (slot_at self.old.txns starter.0) }
+        requires child { HasChild (length self.old.marks) progress }
+        requires footprint { IsFootprint self.old
+            (event_of (inside_in self.old starter) pid act.now) footprint.now }
+        requires free { IsFree self.old starter.0 footprint.now }
+        ensures made { OnOk result
+            (Fits (Within starter.0 (part_of progress))
+            (event_of (inside_in self.old starter) pid act.now) pid.0 (view_of self.old) →
+            IsMade self.old (Within starter.0 (part_of progress))
+            (event_of (inside_in self.old starter) pid act.now) pid.0 self.new inverse.new) }
+        ensures answer { IfOk result (λ outcome.
+            Answers self.old (event_of (inside_in self.old starter) pid act.now) pid self.new
+            outcome) }
+        ensures refused { IfErr result (RefusesStep self.old
+            (event_of (inside_in self.old starter) pid act.now)) }
+        ensures err { OnErr result (self.new ≡ self.old) }
+    {
+        laws();
+        let boxed = self.txns.value_mut(starter);
+        let stepped = step_in(
+            alloc,
+            &mut self.parts,
+            &self.marks,
+            &mut self.owners,
+            pid,
+            act,
+            footprint,
+            &mut boxed.txn,
+        );
+        let Stepped {
+            planned,
+            count,
+            before,
+        } = match stepped {
+            Ok(stepped) => stepped,
+            Err(why) => return Err(why),
+        };
+        let marked = mark_progress(&mut self.marks, starter, pid, progress);
+        let held = hands_out(&planned.sends);
+        let made = Inverse::Inside {
+            starter,
+            count,
+            before,
+            marked,
+            held,
+        };
+        self.put_inverse(inverse, made);
+        Ok(planned.outcome)
+    }
+}
+
+/// What a step inside a transaction came to.
+#[derive(Clone, Copy)]
+struct Stepped {
+    planned: Planned,
+    /// How many old parts of the log are its own.
+    count: usize,
+    /// What was reserved before.
+    before: Objects,
+}
+
+/// Makes the act of a member, and reserves the footprint.
+///
+/// Refuses as `make_in` does; all is then as it was.
+fn step_in(
+    alloc: Global,
+    parts: &mut Parts,
+    marks: &Slots<Mark>,
+    owners: &mut Reservations,
+    pid: Pid,
+    act: &Act,
+    footprint: &Objects,
+    txn: &mut Txn,
+) -> Result<Stepped, Refusal>
+    requires whole { IsWhole parts.old }
+    requires running { IsRunning (slot_at parts.old.procs pid.0) }
+    requires own { Owns txn.old.starter.0 owners.old txn.old.objects }
+    ensures made { IfOk result (λ stepped.
+        StepsIn parts.old parts.new marks.now owners.old owners.new pid act.now footprint.now
+        txn.old txn.new stepped) }
+    ensures refused { IfErr result (RefusesIn parts.old marks.now pid act.now txn.old) }
+    ensures parts { OnErr result (parts.new ≡ parts.old) }
+    ensures owners { OnErr result (owners.new ≡ owners.old) }
+    ensures txn { OnErr result (txn.new ≡ txn.old) }
+{
+    let from = txn.log.len();
+    let planned = make_in(alloc, parts, marks, pid, act, txn)?;
+    let count = txn.log.len() - from;
+    let before = txn.reserve(owners, footprint);
+    owners.sized();
+    Ok(Stepped {
+        planned,
+        count,
+        before,
+    })
+}
+
+/// Makes the act of a member: its exchanges are in the log then, and what it hands out is held.
+///
+/// Refuses as the plan does, and with NoMemory if there is no room for what it hands out; all is
+/// then as it was.
+pub(crate) fn make_in(
+    alloc: Global,
+    parts: &mut Parts,
+    marks: &Slots<Mark>,
+    pid: Pid,
+    act: &Act,
+    txn: &mut Txn,
+) -> Result<Planned, Refusal>
+    requires whole { IsWhole parts.old }
+    requires running { IsRunning (slot_at parts.old.procs pid.0) }
+    ensures made { IfOk result (λ planned.
+        MakesIn parts.old parts.new marks.now pid act.now txn.old txn.new planned) }
+    ensures refused { IfErr result (RefusesIn parts.old marks.now pid act.now txn.old) }
+    ensures parts { OnErr result (parts.new ≡ parts.old) }
+    ensures txn { OnErr result (txn.new ≡ txn.old) }
+{
+    let inside = txn.inside(marks);
+    txn.log.settle()?;
+    let from = txn.log.len();
+    let planned = plan(alloc, parts, pid, Some(inside), act, &mut txn.log)?;
+    let Ok(()) = hold_sends(&mut txn.outbox, &planned.sends) else {
+        txn.log.truncate(from);
+        return Err(Refusal::NoMemory);
+    };
+    txn.log.make_from(parts, from);
+    Ok(planned)
+}
+
+/// Holds what a step hands out. If memory is refused, the outbox is as it was.
+fn hold_sends(outbox: &mut Outbox, sends: &Sends) -> Result<(), NoMemory>
+    ensures sendings { OnOk result
+        (outbox.new.sendings ≡ outbox.old.sendings ++ handed_out sends.now) }
+    ensures posts { OnOk result (outbox.new.posts ≡ outbox.old.posts ++ unmade_of sends.now) }
+    ensures err { OnErr result (outbox.new ≡ outbox.old) }
+{
+    match sends {
+        Sends::Nothing => Ok(()),
+        Sends::AtOnce(_) => Ok(()),
+        Sends::AtCommit(sending) => outbox.hold(*sending),
+    }
+}
+
+/// Whether a step hands out a signal.
+pub(crate) fn hands_out(sends: &Sends) -> bool
+    ensures { result ≡ is_handed_out sends.now }
+{
+    match sends {
+        Sends::Nothing => false,
+        Sends::AtOnce(_) => false,
+        Sends::AtCommit(_) => true,
+    }
+}

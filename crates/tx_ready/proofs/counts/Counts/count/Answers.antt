@@ -1,6 +1,0 @@
-use Rattle.std.proofs.Common.{arith}
-use Rattle.tx_ready.proofs.Counting.{counts_one}
-use Rattle.tx_ready.proofs.counts.Counts.count.Goals as goal
-
-pub returns : goal.returns
-returns c = λ list has. counts_one _ list _ _ (omega (arith, c.requires.number.0)) c.requires.number has

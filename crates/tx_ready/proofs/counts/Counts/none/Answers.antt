@@ -1,6 +1,0 @@
-use Rattle.std.proofs.Common.{refl}
-use Rattle.tx_ready.proofs.Counting.{counts_none}
-use Rattle.tx_ready.proofs.counts.Counts.none.Goals as goal
-
-pub returns : goal.returns
-returns c = counts_none 256 refl
