@@ -109,7 +109,10 @@ impl Log {
     {
         settle(&mut self.changes, &mut self.answer)?;
         if self.changes.capacity() == 0 {
-            self.changes = Vec::with_capacity(*self.changes.allocator(), FIRST_PLACES)?;
+            let mut changes = Vec::with_capacity(*self.changes.allocator(), FIRST_PLACES)?;
+            changes.push_reserved(change);
+            self.changes = changes;
+            return Ok(());
         }
         self.changes.push(change)?;
         Ok(())

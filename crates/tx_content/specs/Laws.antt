@@ -4,7 +4,7 @@ use Rattle.tx_change.specs.Laws.{ApplyThenRevert, ChangesComeBack, ChangesState,
 use Rattle.tx_change.specs.Stacks.{LoggedBackAndForward, MovedAreThere, MovedBackAndForward, MovedIsOnTop, RestIsBelow}
 use Rattle.tx_laws.specs.LawsOfEvents.{MembersSendToMembers}
 use Rattle.tx_laws.specs.LawsOfTwoStates.{PresentIsNow}
-use Rattle.tx_reserve.specs.Laws.{OwnersAreTold}
+use Rattle.tx_reserve.specs.Laws.{OwnersAreExtensional}
 use Rattle.tx_txn.specs.Laws.{EventIsLogged, EventIsMade, EventLeavesRest, LogGoesForward, LogLeadsBack, StepLeadsBack}
 
 pub record LiveLaws : Type 0 where
@@ -28,7 +28,7 @@ pub record LiveLaws : Type 0 where
   pub step : StepLeadsBack
   pub abort : LogLeadsBack
   pub forward : LogGoesForward
-  pub told : OwnersAreTold
+  pub told : OwnersAreExtensional
   pub revert_again : ApplyThenRevert
   pub exchange_again : ExchangesBack
   pub on_top : MovedIsOnTop

@@ -6,7 +6,7 @@ use tx_change::{
     moved_back_and_forward, places_stay, revert_then_apply, stays_named,
 };
 use tx_laws::{answers_of_states, inside};
-use tx_reserve::owners_are_told;
+use tx_reserve::owners_are_extensional;
 use tx_txn::{events_are_made, events_leave_rest, logs_keep, logs_lead_back};
 
 /// The laws that the proofs of contents use. It does nothing.
@@ -29,5 +29,5 @@ pub(crate) fn laws()
     events_leave_rest();
     logs_lead_back();
     logs_keep();
-    owners_are_told();
+    owners_are_extensional();
 }

@@ -1,6 +1,7 @@
 //! Whether a reply is the expected one.
-ghost use Rattle.std.specs.Prelude.{◌≡◌, IfOk, option_map};
+ghost use Rattle.std.specs.Prelude.{◌≡◌, IfOk, option_map, true};
 ghost use Rattle.tx_expect.specs.Agreement as spec;
+ghost use Rattle.tx_state_text.specs.Replies.{reply_text};
 
 use crate::comments::told_in;
 use std::alloc::AllocError;
@@ -34,7 +35,7 @@ fn spells_at_once(spelled: &mut String, expected: &[u8], reply: &Reply) -> Resul
 fn spells(spelled: &mut String, text: &[u8], reply: &Reply) -> Result<bool, AllocError>
     ensures { IfOk result (λ spells. spells ≡ spec.spells text.now reply.now) }
 {
-    if names(text, error_in(reply)) {
+    if is_digit_of(text, reply) || names(text, error_in(reply)) {
         return Ok(true);
     }
     spelled.clear();
@@ -45,6 +46,18 @@ fn spells(spelled: &mut String, text: &[u8], reply: &Reply) -> Result<bool, Allo
     spelled.clear();
     put_named_reply(spelled, reply)?;
     Ok(text == spelled.as_bytes())
+}
+
+/// Whether a text is that of an answer which is a digit: most are, and are worth no spelling.
+fn is_digit_of(text: &[u8], reply: &Reply) -> bool
+    ensures { result ≡ true → text.now ≡ reply_text reply.now }
+{
+    match (text, reply) {
+        ([b'o', b'k', b' ', digit], Reply::Done(ret)) => {
+            digit.is_ascii_digit() && i64::from(*digit - b'0') == *ret
+        }
+        _ => false,
+    }
 }
 
 /// Whether a text is that of an error with its name in place of its number.

@@ -22,7 +22,7 @@ use Rattle.tx_model.specs.History.{reserved_of}
 use Rattle.tx_model.specs.State.{Object, State}
 use Rattle.tx_model.specs.View.{View, view}
 use Rattle.tx_core.specs.OwnerFacts.{reserved_read}
-use Rattle.tx_reserve.specs.Laws.{OwnersAreTold}
+use Rattle.tx_reserve.specs.Laws.{OwnersAreExtensional}
 use Rattle.tx_reserve.specs.Objects.{is_in, object_of}
 use Rattle.tx_reserve.specs.Reservations.{owner_of}
 use Rattle.tx_reserve.specs.declared.objects.Object.{Object as TheObject}
@@ -30,7 +30,7 @@ use Rattle.tx_txn.specs.declared.members.Members.{Members}
 use Rattle.tx_txn.specs.declared.txn.Txn.{Txn}
 
 -- the content before a step is one alone
-module _ (told : OwnersAreTold) where
+module _ (told : OwnersAreExtensional) where
   revived_one : (k a b : Content) (txn : Txn) (ms ns : Members) → Revives k txn ms a → Revives k txn ns b → (a.marks ≡ b.marks) × (a.owners ≡ b.owners)
   revived_one k a b txn ms ns one other =
       let members : ms ≡ ns = same_Some ms ns (sym one.ended ∙ other.ended) in
@@ -109,7 +109,7 @@ touch_then : {A : Type 0} (now before first : Bool) (newest earlier found : A) (
 touch_then now before first newest earlier found none is so rest = grind arith
 
 -- the first step since which the transaction of s has the object is the newest one of its own before which it had not
-pub touch_found : OwnersAreTold → (start : State) (s : ℕ) (object : TheObject) (k : Content) (inverses : List Inverse) (h : List Accepted) → WalksBack start k inverses h → IsMachine k → owner_of k.owners (object_of object) ≡ Some s →
+pub touch_found : OwnersAreExtensional → (start : State) (s : ℕ) (object : TheObject) (k : Content) (inverses : List Inverse) (h : List Accepted) → WalksBack start k inverses h → IsMachine k → owner_of k.owners (object_of object) ≡ Some s →
     first_touch start h s (object_of object) ≡ newest_first s (object_of object) inverses h
 unfolding WalksBack first_touch newest_first
 touch_found told start s object k [] [] walks is owned = refl
@@ -131,7 +131,7 @@ touch_none start [] s o none = refl
 touch_none start (e ∷ h) s o none = rw none refl
 
 -- the same, of a session
-module _ (told : OwnersAreTold) (k : SessionState) (is : IsJournal k) (machine : IsMachine k.machine) (s : ℕ) (object : TheObject) where
+module _ (told : OwnersAreExtensional) (k : SessionState) (is : IsJournal k) (machine : IsMachine k.machine) (s : ℕ) (object : TheObject) where
   abbrev made : List Accepted
   made = history_of (made_of k)
 

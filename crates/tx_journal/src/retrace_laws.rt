@@ -2,7 +2,7 @@
 ghost use Rattle.tx_journal.specs.RetraceLaws.{RetraceLaws};
 
 use tx_laws::{answers_of_states, next_view};
-use tx_step::{booted_is_content, posts_are_told};
+use tx_step::{booted_is_content, posts_are_sends};
 
 /// The laws that the proofs use. It does nothing.
 pub(crate) fn laws()
@@ -11,5 +11,5 @@ pub(crate) fn laws()
     next_view();
     answers_of_states();
     booted_is_content();
-    posts_are_told();
+    posts_are_sends();
 }

@@ -12,7 +12,7 @@ use crate::laws::laws;
 use crate::session::Session;
 use tx_base::{Pid, Step};
 use tx_content::Inverse;
-use tx_reserve::{Object, owners_are_told};
+use tx_reserve::{Object, owners_are_extensional};
 
 /// A step since which a transaction has reserved an object, and the step's number, from 1.
 #[derive(Clone, Copy)]
@@ -30,7 +30,7 @@ impl Session {
             ≡ first_touch (start_of self.now) (history_of (made_of self.now)) starter.0
             (object_of object) }
     {
-        owners_are_told();
+        owners_are_extensional();
         self.machine.is_kept();
         if !self.machine.has_reserved(starter, object) {
             return None;

@@ -30,5 +30,5 @@ abbrev pub WithinIsSmall : Type 0
 WithinIsSmall = (width : ℕ) (o : Object) → width ≤ 256 → is_within width o ≡ true → is_small o ≡ true
 
 -- two tables of owners are the same if each object has the same owner in both
-abbrev pub OwnersAreTold : Type 0
-OwnersAreTold = (one other : List (Option Pid)) → length one ≡ 352 → length other ≡ 352 → ((o : Object) → owner_of one o ≡ owner_of other o) → one ≡ other
+abbrev pub OwnersAreExtensional : Type 0
+OwnersAreExtensional = (one other : List (Option Pid)) → length one ≡ 352 → length other ≡ 352 → ((o : Object) → owner_of one o ≡ owner_of other o) → one ≡ other

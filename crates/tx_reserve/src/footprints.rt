@@ -248,11 +248,11 @@ fn add_last(actor: &Actor, marks: &Slots<Mark>, last: Option<&[Sending]>, set: &
         return;
     };
     add_sends(actor, marks, sends, set);
-    add_told(actor, marks, set);
+    add_notified(actor, marks, set);
 }
 
 /// Puts the parent into a set if it is notified of the process's end when that commits.
-fn add_told(actor: &Actor, marks: &Slots<Mark>, set: &mut Objects)
+fn add_notified(actor: &Actor, marks: &Slots<Mark>, set: &mut Objects)
     requires { IsInside actor.now marks.now }
     ensures { Adds set.old set.new
         (targets (table_at actor.now marks.now) actor.now.pid.0

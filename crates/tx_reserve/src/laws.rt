@@ -1,5 +1,5 @@
 //! Laws of footprints and of owners.
-ghost use Rattle.tx_reserve.specs.Laws.{FootprintIsWithin, OwnersAreTold, WithinIsSmall};
+ghost use Rattle.tx_reserve.specs.Laws.{FootprintIsWithin, OwnersAreExtensional, WithinIsSmall};
 
 /// In a well-formed state the footprint of a step has only objects of numbers in range: processes 1
 /// to the width, descriptions 0 to 63, pipes 0 to 31. The step is of a process that runs and
@@ -10,6 +10,6 @@ pub fn footprints_are_within()
 {}
 
 /// Two tables of owners are the same if each object has the same owner in both.
-pub fn owners_are_told()
-    ensures { OwnersAreTold }
+pub fn owners_are_extensional()
+    ensures { OwnersAreExtensional }
 {}

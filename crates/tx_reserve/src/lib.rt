@@ -26,7 +26,7 @@ mod reservations;
 mod step_footprint;
 
 pub use footprints::{footprint_of_call, footprint_of_delivery};
-pub use laws::{footprints_are_within, owners_are_told};
+pub use laws::{footprints_are_within, owners_are_extensional};
 pub use objects::{Object, Objects};
 pub use open_parts::is_other_open;
 pub use reservations::Reservations;

@@ -29,7 +29,7 @@ use Rattle.tx_step.proofs.WholeContents.{now_seen, slot_seen}
 use Rattle.tx_step.specs.Contents.{IsContent}
 use Rattle.tx_step.specs.Requests.{step_of}
 use Rattle.tx_step.specs.Roles.{role_as}
-use Rattle.tx_step.specs.TwoAnswers.{answered_twice, difference_at, first_difference, two_answers, DifferencesAreTold}
+use Rattle.tx_step.specs.TwoAnswers.{answered_twice, difference_at, first_difference, two_answers, DifferencesAreFound}
 use Rattle.tx_step.specs.declared.differing.TwoAnswers.{TwoAnswers}
 use Rattle.tx_step.specs.declared.request.Request.{Request}
 use Rattle.tx_step.specs.declared.request.Request.TheVariants.{Call, Delivery}
@@ -52,8 +52,8 @@ found_or_none t (m ∷ ms) (x ∷ xs) (y ∷ ys) = by (m.target == t) (int_eq x 
     by true false rest = refl
     by false b rest = rest
 
-pub differences_told : DifferencesAreTold
-differences_told V event s =
+pub differences_found : DifferencesAreFound
+differences_found V event s =
     let f = effect event (present V) in found_or_none s f.sends (send_answers f (present V)) (send_answers f (V.without (just s)))
 
 module _ (V : View) (step : Step) (s : ℕ) where

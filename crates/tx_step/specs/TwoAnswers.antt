@@ -39,5 +39,5 @@ module _ (V : View) where
       if not (is_running ((present V).procs (process_of step))) then None else difference_at (event_on V step) s
 
 -- an event has such a signal exactly where the definitions say that one of its posts has two answers
-abbrev pub DifferencesAreTold : Type 0
-DifferencesAreTold = (V : View) (event : Event) (s : ℕ) → is_some (difference_at V event s) ≡ has_two_answers V event s
+abbrev pub DifferencesAreFound : Type 0
+DifferencesAreFound = (V : View) (event : Event) (s : ℕ) → is_some (difference_at V event s) ≡ has_two_answers V event s

@@ -11,7 +11,7 @@ ghost use Rattle.tx_model.specs.View.{present};
 ghost use Rattle.tx_step.specs.Contents.{IsContent};
 ghost use Rattle.tx_step.specs.Faces.{sent};
 ghost use Rattle.tx_step.specs.Requests.{step_of};
-ghost use Rattle.tx_step.specs.TwoAnswers.{DifferencesAreTold, difference_at, two_answers};
+ghost use Rattle.tx_step.specs.TwoAnswers.{DifferencesAreFound, difference_at, two_answers};
 ghost use Rattle.tx_step.specs.Ways.{posted_with};
 ghost use Rattle.tx_txn.specs.Marks.{table_at};
 
@@ -135,6 +135,6 @@ fn difference_at(
 
 /// An event has a signal to a starter with two answers exactly where the definitions say that one of its
 /// posts has.
-pub fn differences_are_told()
-    ensures { DifferencesAreTold }
+pub fn differences_are_found()
+    ensures { DifferencesAreFound }
 {}

@@ -18,7 +18,7 @@
 //! - `role_of_call`, `role_of_delivery`: the role (`StepRole`), before there is a reply.
 //! - `find_starter`: the lesser of the least other owner in the footprint and the least starter
 //!   with two answers. `Faces` goes through the sends once. What a committing step hands out is its
-//!   last send (law `posts_are_told`).
+//!   last send (law `posts_are_sends`).
 //! - `way_of_call`, `way_of_delivery`: `find_starter` with the step's footprint and sends, and what
 //!   is held if its role commits. Other members' parts are looked at only for a step that ends its
 //!   own, and once (`last_by`). Most calls name only their process and send nothing
@@ -59,9 +59,9 @@ mod ways;
 
 pub use aborts::{kernel_status, take_kernel_abort};
 pub use answered::Answered;
-pub use differing::{TwoAnswers, differences_are_told, two_answers};
+pub use differing::{TwoAnswers, differences_are_found, two_answers};
 pub use named::footprint;
-pub use refusal_laws::{booted_is_content, contents_are_whole, posts_are_told};
+pub use refusal_laws::{booted_is_content, contents_are_whole, posts_are_sends};
 pub use replies::put_reply;
 pub use roles::{StepRole, role_of_call, role_of_delivery};
 pub use steps::{take_call, take_delivery};

@@ -52,7 +52,7 @@ pub fn booted_is_content()
 
 /// What is posted with a call or a delivery of a process that runs is what it sends first, at once
 /// or at the commit, and if it commits, what the transaction holds.
-pub fn posts_are_told()
+pub fn posts_are_sends()
     ensures call { CallIsPosted }
     ensures delivery { DeliveryIsPosted }
 {}

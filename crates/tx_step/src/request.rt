@@ -22,7 +22,7 @@ ghost use Rattle.tx_step.specs.Requests.{IsActOf, is_own, step_of};
 ghost use Rattle.tx_step.specs.Ways.{posted_with};
 
 use crate::early::{early_refusal_of_call, early_refusal_of_delivery};
-use crate::refusal_laws::{contents_are_whole, laws, posts_are_told};
+use crate::refusal_laws::{contents_are_whole, laws, posts_are_sends};
 use crate::roles::{StepRole, beginning, role_of_call, role_of_delivery};
 use crate::ways::{actor_of, way_of_call, way_of_delivery};
 use tx_base::{Call, Pid, Refusal, Signo};
@@ -102,7 +102,7 @@ impl<'a> Request<'a> {
         ensures { (effect (event_on (view_of content.now) (step_of pid self.entry))
             (now_of content.now)).sends ≡ posted_with content.now role result }
     {
-        posts_are_told();
+        posts_are_sends();
         let actor = actor_of(content, pid);
         match self {
             Request::Call(call) => actor.sends_of_call(call),

@@ -3,7 +3,7 @@ use Rattle.tx_model.specs.Effects.{Inside}
 use Rattle.tx_model.specs.Footprints.{is_for_later}
 use Rattle.tx_reserve.specs.Footprints.{table_at}
 use Rattle.tx_reserve.proofs.Rows.{told_none, told_now, told_later}
-use Rattle.tx_reserve.proofs.footprints.add_told.Goals as goal
+use Rattle.tx_reserve.proofs.footprints.add_notified.Goals as goal
 
 pub returns-then-parent-eq1 : goal.returns-then-parent-eq1
 returns-then-parent-eq1 c = told_none c.args.set.now (table_at c.args.actor.now c.args.marks.now) c.args.actor.now.pid.0 c.args.actor.now.proc.now.parent.0 c.if-parent-eq1.true

@@ -1,5 +1,5 @@
 use Rattle.tx_reserve.proofs.SameOwners.{same_owners}
-use Rattle.tx_reserve.proofs.laws.owners_are_told.Goals as goal
+use Rattle.tx_reserve.proofs.laws.owners_are_extensional.Goals as goal
 
 pub returns : goal.returns
 returns c = same_owners
