@@ -41,7 +41,7 @@ steps_more version line steps more are few adds = record {
   few = omega (arith, few, length_more steps adds.added more adds.more);
 }
 
--- of a fault of one kind another is so
+-- where a fault of one kind is of another
 pub faults_by : (P Q : Fault → Type 0) → ((fault : Fault) → P fault → Q fault) → (fault : Fault) → FaultsBy P fault → FaultsBy Q fault
 faults_by P Q so (NotALine line) is = so (NotALine line) is
 faults_by P Q so (NoLabel line) is = so (NoLabel line) is

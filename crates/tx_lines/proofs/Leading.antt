@@ -15,7 +15,7 @@ use Rattle.tx_lines.proofs.FirstWord.{free_decimal, parts_at-word, same_parts}
 use Rattle.tx_lines.specs.NumberFacts.{mag_small, own}
 
 module _ (line : List ℕ) (n : ℕ) (rest : List ℕ) (small : n < 10 ^ 19) (e : line ≡ decimal n ++ 32 ∷ rest) where
-  -- the space stands after the digits
+  -- the space comes after the digits
   pub space_after : get_or line (length (decimal n)) 0 ≡ 32
   space_after = rw e (get_or-append_seam (decimal n) 32 rest 0)
 
@@ -24,7 +24,7 @@ module _ (line : List ℕ) (n : ℕ) (rest : List ℕ) (small : n < 10 ^ 19) (e 
       let whole : length line ≡ length (decimal n) + suc (length rest) = ap length e ∙ length-append (decimal n) (32 ∷ rest) in
       omega (arith, whole)
 
-  -- and before it there are digits alone
+  -- and before it are only digits
   pub digit_before : (i : ℕ) → i < length (decimal n) → IsInRange 48 57 (get_or line i 0)
   digit_before i below =
       let read : get_or line i 0 ≡ get_or (decimal n) i 0 = ap (λ (bytes : List ℕ). get_or bytes i 0) e ∙ get_or_append_left (decimal n) (32 ∷ rest) 0 i below in
@@ -41,7 +41,7 @@ module _ (line : List ℕ) (n : ℕ) (rest : List ℕ) (small : n < 10 ^ 19) (e 
         | inr within' ↦ within'
       ]
 
-  -- a space after digits alone is that space
+  -- a space after only digits is that space
   pub is_that_space : (i : ℕ) → AllDigits 10 (take i line) → i < length line → get_or line i 0 ≡ 32 → i ≡ length (decimal n)
   is_that_space i digits within here =
       elim (cases_lt i (length (decimal n))) [
@@ -49,7 +49,7 @@ module _ (line : List ℕ) (n : ℕ) (rest : List ℕ) (small : n < 10 ^ 19) (e 
         | inr after ↦ omega (arith, not_past i digits (omega arith), after)
       ]
 
-  -- and another byte after digits alone is a digit before it
+  -- and another byte after only digits is a digit before it
   pub is_before_space : (i : ℕ) → AllDigits 10 (take i line) → i < length line → (get_or line i 0 ≡ 32 → ⊥) → i < length (decimal n)
   is_before_space i digits within other =
       elim (cases_lt i (length (decimal n))) [
@@ -102,7 +102,7 @@ digit_front (byte ∷ next ∷ rest) number within here digit same =
     let whole : byte ∷ next ∷ rest ≡ decimal number ++ 32 ∷ rest = rw (spelled, first, here) refl in
     whole ∙ ap (λ (bytes : List ℕ). decimal number ++ 32 ∷ bytes) (sym (all_left (byte ∷ next ∷ rest) 2))
 
--- two digits and a space spell a number, where no 0 stands in front
+-- two digits and a space spell a number, where the first is not 0
 pub two_front : (line : List ℕ) (number : ℕ) → 2 < length line → get_or line 2 0 ≡ 32 → 48 < get_or line 0 0 → IsInRange 48 57 (get_or line 0 0) → IsInRange 48 57 (get_or line 1 0)
     → number ≡ 10 * (get_or line 0 0 - 48) + (get_or line 1 0 - 48) → line ≡ decimal number ++ 32 ∷ take (length line - 3) (drop 3 line)
 two_front [] number within here front tens ones same = absurd (omega arith)
@@ -117,7 +117,7 @@ two_front (first ∷ second ∷ next ∷ rest) number within here front tens one
     let whole : first ∷ second ∷ next ∷ rest ≡ decimal number ++ 32 ∷ rest = rw (spelled, digit, one, here) refl in
     whole ∙ ap (λ (bytes : List ℕ). decimal number ++ 32 ∷ bytes) (sym (all_left (first ∷ second ∷ next ∷ rest) 3))
 
--- digits and a space spell a number, where no 0 stands in front
+-- digits and a space spell a number, where the first is not 0
 pub spelled_front : (line : List ℕ) (i number : ℕ) → AllDigits 10 (take i line) → number ≡ digits_value 10 (take i line) → 0 < i → i < 20 → i < length line → get_or line i 0 ≡ 32
     → (get_or line 0 0 ≡ 48 → ⊥) → line ≡ decimal number ++ 32 ∷ drop (i + 1) line
 spelled_front line i number digits value some few within here front =
@@ -126,7 +126,7 @@ spelled_front line i number digits value some few within here front =
     let word : take i line ≡ decimal number = spelled_by_digits (take i line) number digits value (omega (arith, long)) (omega (arith, long)) front' in
     parted line i within here ∙ ap (λ (bytes : List ℕ). bytes ++ 32 ∷ drop (i + 1) line) word
 
--- a line begins with one number alone
+-- a line begins with only one number
 pub same_front : (line : List ℕ) (m n : ℕ) (rest left : List ℕ) → m < 10 ^ 19 → n < 10 ^ 19 → line ≡ decimal m ++ 32 ∷ rest → line ≡ decimal n ++ 32 ∷ left → (m ≡ n) × (rest ≡ left)
 same_front line m n rest left m_small n_small e f =
     let first = parts_at-word 32 (decimal m) rest (free_decimal m (omega arith)).0 in

@@ -5,7 +5,7 @@ use Rattle.tx_lines.proofs.FirstWord.{parts_front, same_parts}
 use Rattle.tx_lines.specs.Schedule.{first_line, after_line, IsLine}
 use Rattle.tx_lines.specs.Words.{parts_at, with_front}
 
--- what stands before the first line's end, and behind it
+-- what is before the first line's end, and after it
 pub line_found : (text line rest : List ℕ) → Some (line, rest) ≡ parts_at 10 text → (line ≡ first_line text) × (Some rest ≡ after_line text)
 line_found [] line rest e = absurd (cc)
 line_found (byte ∷ bytes) line rest e =

@@ -43,7 +43,7 @@ plain_as_short Plain byte bytes = omega arith
 plain_as_short (Slot slot) byte bytes = omega arith
 plain_as_short (Label name) byte bytes = omega arith
 
--- what stands for a word is no longer
+-- the plain form of a word is no longer
 pub plain_short : (word : List ℕ) → length (plain_word word) ≤ length word
 plain_short [] = omega arith
 plain_short (byte ∷ bytes) = plain_as_short (spelling_of (byte ∷ bytes)) byte bytes

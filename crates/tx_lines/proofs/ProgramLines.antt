@@ -72,7 +72,7 @@ unfolding AreFree
 plain_free [] free = tt
 plain_free (word ∷ words) free = (plain_as_free (spelling_of word) word free.0, plain_free words free.1)
 
--- a word that begins with neither mark stands for itself
+-- a word that begins with neither mark is read as itself
 pub itself : (word : List ℕ) → IsPlain word → spelling_of word ≡ Plain
 unfolding IsFree
 itself [] plain = refl
@@ -81,15 +81,15 @@ itself (byte ∷ bytes) plain =
     let at_sign = ne_eqb byte 64 plain.at_sign.0 in
     rw (dollar, at_sign) refl
 
--- what a word says that is read so
-Told : Spelling → List ℕ → Type 0
-Told Plain word = Unit {0}
-Told (Slot slot) word = (slot < 8) × (word ≡ 36 ∷ decimal slot)
-Told (Label name) word = (is_name name.bytes.items ≡ true) × (word ≡ 64 ∷ name.bytes.items)
+-- what a word is that is read so
+SpelledBy : Spelling → List ℕ → Type 0
+SpelledBy Plain word = Unit {0}
+SpelledBy (Slot slot) word = (slot < 8) × (word ≡ 36 ∷ decimal slot)
+SpelledBy (Label name) word = (is_name name.bytes.items ≡ true) × (word ≡ 64 ∷ name.bytes.items)
 
-told_slot : (byte : ℕ) → Told (slot_spelling byte) (36 ∷ byte ∷ [])
-unfolding Told
-told_slot byte =
+slot_spelled_by : (byte : ℕ) → SpelledBy (slot_spelling byte) (36 ∷ byte ∷ [])
+unfolding SpelledBy
+slot_spelled_by byte =
     elim (leb_tells 48 byte) [
       | inl low ↦ elim (leb_tells byte 55) [
         | inl high ↦ let digit : 48 + (byte - 48) ≡ byte = omega (arith, low.1) in
@@ -102,48 +102,48 @@ told_slot byte =
       | inr low ↦ rw low.0 tt
     ]
 
-told_label : (bytes : List ℕ) → Told (label_spelling bytes) (64 ∷ bytes)
-unfolding Told
-told_label bytes = by (is_name bytes) refl
+label_spelled_by : (bytes : List ℕ) → SpelledBy (label_spelling bytes) (64 ∷ bytes)
+unfolding SpelledBy
+label_spelled_by bytes = by (is_name bytes) refl
   where
-    by : (named : Bool) → is_name bytes ≡ named → Told (if named then Label (record { bytes = record { items = bytes } }) else Plain) (64 ∷ bytes)
+    by : (named : Bool) → is_name bytes ≡ named → SpelledBy (if named then Label (record { bytes = record { items = bytes } }) else Plain) (64 ∷ bytes)
     by true e = (e, refl)
     by false e = tt
 
-told_dollar : (bytes : List ℕ) → Told (spelling_of (36 ∷ bytes)) (36 ∷ bytes)
-unfolding Told
-told_dollar [] = tt
-told_dollar (byte ∷ []) = told_slot byte
-told_dollar (byte ∷ next ∷ bytes) = let more = ne_eqb (length (byte ∷ next ∷ bytes)) 1 (λ e. omega (arith, e)) in rw more tt
+dollar_spelled_by : (bytes : List ℕ) → SpelledBy (spelling_of (36 ∷ bytes)) (36 ∷ bytes)
+unfolding SpelledBy
+dollar_spelled_by [] = tt
+dollar_spelled_by (byte ∷ []) = slot_spelled_by byte
+dollar_spelled_by (byte ∷ next ∷ bytes) = let more = ne_eqb (length (byte ∷ next ∷ bytes)) 1 (λ e. omega (arith, e)) in rw more tt
 
-told : (word : List ℕ) → Told (spelling_of word) word
-unfolding Told
-told [] = tt
-told (byte ∷ bytes) =
+spelled_by : (word : List ℕ) → SpelledBy (spelling_of word) word
+unfolding SpelledBy
+spelled_by [] = tt
+spelled_by (byte ∷ bytes) =
     elim (eqb_tells byte 36) [
-      | inl h ↦ subst (λ (b : ℕ). Told (spelling_of (b ∷ bytes)) (b ∷ bytes)) (sym h.1) (told_dollar bytes)
+      | inl h ↦ subst (λ (b : ℕ). SpelledBy (spelling_of (b ∷ bytes)) (b ∷ bytes)) (sym h.1) (dollar_spelled_by bytes)
       | inr h ↦ elim (eqb_tells byte 64) [
-        | inl g ↦ rw (h.0, g.0, g.1) (told_label bytes)
+        | inl g ↦ rw (h.0, g.0, g.1) (label_spelled_by bytes)
         | inr g ↦ rw (h.0, g.0) tt
       ]
     ]
 
--- a word that stands for an argument, and may do so, spells it
+-- a word that is read as an argument, and may be, spells it
 word_sound : (word : List ℕ) (argument : Argument) → IsGood argument → plain_word word ≡ word_of argument → may_be (spelling_of word) (kind_of argument) ≡ true →
     IsSpelled (spelling_of word) argument × (spelled_word (spelling_of word) argument ≡ word)
-unfolding Told
-word_sound word argument good same may = by (spelling_of word) argument good.fits (told word) same may
+unfolding SpelledBy
+word_sound word argument good same may = by (spelling_of word) argument good.fits (spelled_by word) same may
   where
-    by : (s : Spelling) (a : Argument) → FitsArgument a → Told s word → plain_as s word ≡ word_of a → may_be s (kind_of a) ≡ true → IsSpelled s a × (spelled_word s a ≡ word)
-    by Plain a fits told same may = (may, sym same)
-    by (Slot slot) (Number number) fits told same may =
+    by : (s : Spelling) (a : Argument) → FitsArgument a → SpelledBy s word → plain_as s word ≡ word_of a → may_be s (kind_of a) ≡ true → IsSpelled s a × (spelled_word s a ≡ word)
+    by Plain a fits spelled_by same may = (may, sym same)
+    by (Slot slot) (Number number) fits spelled_by same may =
         let zero_number : number ≡ pos 0 = sym (signed_decimal_injective (pos 0) number (omega arith) (mag_small number fits) (decimal_digit 0 (omega arith) ∙ same)) in
-        ((told.0, ap Number zero_number), sym told.1)
-    by (Slot slot) a fits told same may = absurd (both_ways false refl may)
-    by (Label name) (Point point) fits told same may =
+        ((spelled_by.0, ap Number zero_number), sym spelled_by.1)
+    by (Slot slot) a fits spelled_by same may = absurd (both_ways false refl may)
+    by (Label name) (Point point) fits spelled_by same may =
         let zero_point : point ≡ 0 = sym (decimal_injective 0 point (omega arith) (omega (arith, fits)) (decimal_digit 0 (omega arith) ∙ same)) in
-        ((told.0, ap Point zero_point), sym told.1)
-    by (Label name) a fits told same may = absurd (both_ways false refl may)
+        ((spelled_by.0, ap Point zero_point), sym spelled_by.1)
+    by (Label name) a fits spelled_by same may = absurd (both_ways false refl may)
 
 -- so do words one by one
 pub words_sound : (words : List (List ℕ)) (arguments : List Argument) → AreGood arguments → map plain_word words ≡ map word_of arguments
@@ -160,7 +160,7 @@ words_sound (word ∷ words) (argument ∷ arguments) good same may =
     let tail = words_sound words arguments good.1 others (λ place. may (suc place)) in
     ((head.0, tail.0), rw (head.1, tail.1) refl)
 
--- what is said of the word that spells an argument
+-- how a word spells an argument
 record Spells (spelling : Spelling) (argument : Argument) : Type 0 where
   free : IsFree 32 (spelled_word spelling argument)
   same : spelling_of (spelled_word spelling argument) ≡ spelling
@@ -224,7 +224,7 @@ spells (Label name) argument spelled good =
       may = ap (λ (a : Argument). may_be (Label name) (kind_of a)) spelled.1;
     }
 
--- what is said of the words that spell some arguments
+-- how words spell some arguments
 pub record SpellAll (spellings : List Spelling) (arguments : List Argument) : Type 0 where
   pub free : AreFree (spelled_words spellings arguments)
   pub same : map spelling_of (spelled_words spellings arguments) ≡ spellings
@@ -260,7 +260,7 @@ may_all (s ∷ spellings) (a ∷ arguments) spelled good zero spelling argument 
     ap (λ (x : Spelling). may_be x (kind_of argument)) (sym same) ∙ ap (λ (x : Argument). may_be s (kind_of x)) (sym as_well) ∙ (spells s a spelled.0 good.0).may
 may_all (s ∷ spellings) (a ∷ arguments) spelled good (suc place) spelling argument at there = may_all spellings arguments spelled.1 good.1 place spelling argument at there
 
--- a line whose words stand for those of a call spells the call
+-- a line whose words are read as those of a call spells the call
 pub record LineSpells (line : List ℕ) (c : Call) (spellings : List Spelling) : Type 0 where
   pub text : line ≡ joined (name_of c) (spelled_words spellings (program_arguments c))
   pub spelled : AreSpelled spellings (program_arguments c)

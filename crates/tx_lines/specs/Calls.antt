@@ -1,5 +1,5 @@
--- The text of a call, without the process that makes it: a name, and arguments. One table has both for each call, and the rest is said by it, but for the group that
--- it is read with, and its numbers.
+-- The text of a call, without the process that makes it: a name, and arguments. One table has both for each call; all else follows from it, but
+-- for the group that a call is read with, and its numbers.
 use Rattle.std.specs.Prelude.{ℕ, ℤ, ◌^◌, Bool, true, false, List, [], ◌∷◌, ◌++◌, codes}
 use Rattle.std.specs.Fmt.{signed_decimal}
 use Rattle.std.specs.List.{filter}
@@ -86,8 +86,8 @@ parts_of call.SysXbeginDefer = (codes "sys_xbegin", Word (codes "defer") ∷ [])
 parts_of call.SysXend = (codes "sys_xend", [])
 parts_of call.SysXabort = (codes "sys_xabort", [])
 
--- the group of a call: those that are told by the front of their text, memory, processes, ids, descriptors, transfers, signals, script, and those
--- that have no argument
+-- the group of a call: those known by the front of their text, memory, processes, ids, descriptors, transfers, signals, script, and those
+-- without arguments
 abbrev pub group_of : Call → ℕ
 group_of (call.Store address bytes) = 0
 group_of (call.Load address) = 0
@@ -121,7 +121,7 @@ group_of (call.Jump point when) = 7
 group_of (call.Keep slot) = 7
 group_of _ = 8
 
--- when a jump is made: the number stands third, after the point and a word
+-- when a jump is made: the number is third, after the point and a word
 abbrev pub when_with : (ℕ → ℤ → ℤ) → When → When
 when_with at Always = Always
 when_with at (IfRet ret) = IfRet (at 2 ret)

@@ -10,7 +10,7 @@ pub record Counts : Type 0 where
   pub failed : ℕ
   pub empty : ℕ
 
--- none of the counts stands at its last value
+-- none of the counts is at its last value
 pub record HasRoom (counts : Counts) : Type 0 where
   pub again : counts.again + 1 < 2 ^ 64
   pub failed : counts.failed + 1 < 2 ^ 64

@@ -1,4 +1,4 @@
--- The call that an instruction makes: numbers that stand in slots of the process are put in.
+-- The call that an instruction makes: numbers in slots of the process are put in.
 use Rattle.std.specs.Prelude.{ℕ, ℤ, ◌+◌, List, [], ◌∷◌, slice_index_or}
 use Rattle.tx_base.specs.declared.steps.Call.{Call}
 use Rattle.tx_lines.specs.Arguments.{Argument, Number}
@@ -21,7 +21,7 @@ number_at slots spellings place number = number_of slots number (slice_index_or 
 abbrev pub filled : List ℤ → Instruction → Call
 filled slots instruction = with_numbers (number_at slots instruction.spellings.items) instruction.call
 
--- arguments with what their numbers are, where the first of them stands at a place
+-- arguments with what their numbers are, where the first of them is at a place
 abbrev pub numbered : (ℕ → ℤ → ℤ) → ℕ → List Argument → List Argument
 numbered at place [] = []
 numbered at place (Number number ∷ arguments) = Number (at place number) ∷ numbered at (place + 1) arguments

@@ -18,7 +18,7 @@ use Rattle.tx_lines.specs.declared.read.header.Version.{Version}
 abbrev pub is_letter : ℕ → Bool
 is_letter byte = nat_le 97 byte && nat_le byte 122
 
--- whether a byte may stand in a name
+-- whether a byte may be in a name
 abbrev pub is_name_byte : ℕ → Bool
 is_name_byte byte = is_letter byte || (nat_le 48 byte && nat_le byte 57) || nat_eq byte 95
 
@@ -48,7 +48,7 @@ kind_of (Argument.Number number) = kinds.Number
 kind_of (Argument.Point point) = kinds.Point
 kind_of _ = kinds.Word
 
--- whether an argument may be spelled so: a number by a slot, and a point by a label alone
+-- whether an argument may be spelled so: a number by a slot, and a point only by a label
 abbrev pub may_be : Spelling → Kind → Bool
 may_be Plain kinds.Number = true
 may_be Plain kinds.Point = false
@@ -65,7 +65,7 @@ abbrev pub MayAllBe : List Spelling → List Argument → Type 0
 MayAllBe spellings arguments = (place : ℕ) (spelling : Spelling) (argument : Argument) → slice_get spellings place ≡ Some spelling
     → slice_get arguments place ≡ Some argument → may_be spelling (kind_of argument) ≡ true
 
--- an argument is spelled so in a text; what stands for it until it is known is 0
+-- an argument is spelled so in a text; until it is known it is 0
 abbrev pub IsSpelled : Spelling → Argument → Type 0
 IsSpelled Plain argument = may_be Plain (kind_of argument) ≡ true
 IsSpelled (Slot slot) argument = (slot < 8) × (argument ≡ Argument.Number (pos 0))
@@ -77,7 +77,7 @@ AreSpelled [] [] = Unit {0}
 AreSpelled (spelling ∷ spellings) (argument ∷ arguments) = IsSpelled spelling argument × AreSpelled spellings arguments
 AreSpelled _ _ = ⊥
 
--- what is chosen stands as 0 until it is
+-- what is chosen is 0 until it is
 abbrev pub AreLater : List Argument → Type 0
 AreLater [] = Unit {0}
 AreLater (Argument.Chosen limit number ∷ arguments) = (number ≡ 0) × AreLater arguments
@@ -93,7 +93,7 @@ pub record IsInstruction (version : Version) (instruction : Instruction) : Type 
   pub chooses : ChoosesLater instruction.call
   pub spelled : AreSpelled instruction.spellings.items (program_arguments instruction.call)
 
--- how a word of a text is to be read
+-- how a word of a text is read
 abbrev pub slot_spelling : ℕ → Spelling
 slot_spelling byte = if nat_le 48 byte && nat_le byte 55 then Slot (byte - 48) else Plain
 
@@ -105,7 +105,7 @@ spelling_of [] = Plain
 spelling_of (byte ∷ bytes) =
     if nat_eq byte 36 && nat_eq (length bytes) 1 then slot_spelling (slice_index bytes 0) else if nat_eq byte 64 then label_spelling bytes else Plain
 
--- a word that is spelled so, or 0 where it stands for something
+-- a word that is spelled so, or 0 where it names a slot or a label
 abbrev pub plain_as : Spelling → List ℕ → List ℕ
 plain_as Plain word = word
 plain_as (Slot slot) word = codes "0"
@@ -114,7 +114,7 @@ plain_as (Label name) word = codes "0"
 abbrev pub plain_word : List ℕ → List ℕ
 plain_word word = plain_as (spelling_of word) word
 
--- the words of a text, parted by spaces: the first, and the others
+-- the words of a text, separated by spaces: the first, and the others
 abbrev pub with_byte : ℕ → List ℕ × List (List ℕ) → List ℕ × List (List ℕ)
 with_byte byte words = (byte ∷ words.0, words.1)
 

@@ -25,12 +25,12 @@ FitsStep (steps.Call pid call) = (pid.0 < 2 ^ 16) × FitsCall call
 FitsStep (steps.Deliver pid signo) = (pid.0 < 2 ^ 16) × (signo.0 < 2 ^ 8)
 FitsStep (steps.KernelAbort starter) = starter.0 < 2 ^ 16
 
--- what the second version brought
+-- what the second version added
 abbrev pub IsSecond : Version → Type 0
 IsSecond One = ⊥
 IsSecond Two = Unit {0}
 
--- a version has each call, but what defers deliveries came with the second
+-- a version has each call, but the second added what defers deliveries
 abbrev pub IsCallOf : Version → Call → Type 0
 IsCallOf version SysXbeginDefer = IsSecond version
 IsCallOf version _ = Unit {0}

@@ -7,7 +7,7 @@ use Rattle.tx_model.specs.SignalSets.{is_known, set_of}
 use Rattle.tx_lines.specs.Lists.{more_text}
 use Rattle.tx_lines.specs.Sets.{members}
 
--- a set that a text can hold: it has known signals alone
+-- a set that a text can hold: it has only known signals
 abbrev pub FitsSet : SigSet → Type 0
 FitsSet set = bits_of set ≡ set_of (members (bits_of set))
 

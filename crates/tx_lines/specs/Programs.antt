@@ -84,7 +84,7 @@ with_point point (call.Jump old when) = call.Jump point when
 with_point point (call.Sigaction signo action) = call.Sigaction signo (action_with_point point action)
 with_point point c = c
 
--- an instruction with the number that its label stands for; nothing where that label is nowhere
+-- an instruction with the number that its label names; nothing where that label is not defined
 abbrev pub linked_to : List (Name × ℕ) → Instruction → Option Name → Option Instruction
 linked_to labels instruction None = Some instruction
 linked_to labels instruction (Some name) =
@@ -97,7 +97,7 @@ linked labels instruction = linked_to labels instruction (label_in instruction.s
 abbrev pub program_text : Header → List Line → List ℕ
 program_text header lines = header_text kinds.Program header ++ 10 ∷ lines_of line_text lines
 
--- the program has that header, the labels of those lines, and their instructions, each with the number that its label stands for
+-- the program has that header, the labels of those lines, and their instructions, each with the number that its label names
 pub record IsProgramOf (lines : List Line) (program : Program) : Type 0 where
   pub header_fits : FitsHeader program.header
   pub lines_fit : AreLines program.header.version lines
@@ -150,18 +150,18 @@ pub record FaultsAfterLines (version : Version) (text : List ℕ) (fault : Fault
   pub parts : text ≡ lines_of line_text before ++ rest
   pub fault_after : FaultsAtProgramLine version before rest fault
 
--- the instruction of a line, if it has one, with the number that its label stands for
+-- the instruction of a line, if it has one, with the number that its label names
 abbrev pub linked_line : List (Name × ℕ) → Line → List (Option Instruction)
 linked_line labels (line.Label name) = []
 linked_line labels (line.Instruction instruction) = linked labels instruction ∷ []
 
--- the label of an instruction is nowhere
+-- the label of an instruction is not defined
 pub record IsUser (labels : List (Name × ℕ)) (user : Line) : Type 0 where
   pub instruction : Instruction
   pub same : user ≡ line.Instruction instruction
   pub nowhere : linked labels instruction ≡ None
 
--- the first line whose label is nowhere has that number
+-- the first line whose label is not defined has that number
 pub record IsFirstUser (labels : List (Name × ℕ)) (lines : List Line) (number : ℕ) : Type 0 where
   pub before : List Line
   pub user : Line
@@ -171,7 +171,7 @@ pub record IsFirstUser (labels : List (Name × ℕ)) (lines : List Line) (number
   pub nowhere : IsUser labels user
   pub same : number ≡ length before + 2
 
--- all lines are a program's, and that is the first that uses a label that is nowhere
+-- all lines are a program's, and that is the first that uses a label that is not defined
 pub record FaultsAtLabel (version : Version) (text : List ℕ) (number : ℕ) : Type 0 where
   pub lines : List Line
   pub good : AreLines version lines

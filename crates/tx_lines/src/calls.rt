@@ -1,5 +1,5 @@
-//! The table of calls: how a call of each name is read, how each is printed, and where its numbers
-//! stand. Arguments that are more than numbers are read and printed beside it, by groups.
+//! The table of calls: how the call of each name is read and printed, and where its numbers are.
+//! Other arguments are read in `read/calls`, and printed in `print/arguments.rt`.
 ghost use Rattle.std.specs.Prelude.{◌≡◌, ◌≤◌, ◌++◌, ◌∷◌, IfSome, None, OnOk, Some, map, string_bytes};
 ghost use Rattle.std.specs.Fmt.{signed_decimal};
 ghost use Rattle.std.specs.Bool.{then_some};
@@ -24,8 +24,8 @@ use std::alloc::AllocError;
 use std::fmt::Write;
 use tx_base::{Call, When};
 
-/// The call on memory of that name and with those arguments, or one that a later group has. Nothing
-/// where none is spelled so.
+/// Reads the call on memory of that name with those arguments, or one of a later group. Returns
+/// whether there is one.
 pub fn memory_call(version: Version, name: &[u8], arguments: &[u8], call: &mut Call) -> bool
     ensures found { IfSome (then_some result call.new)
         (SpellsCall version (name.now ++ 32 ∷ arguments.now)) }
@@ -39,8 +39,8 @@ pub fn memory_call(version: Version, name: &[u8], arguments: &[u8], call: &mut C
     }
 }
 
-/// The call on processes of that name and with those arguments, or one that a later group has.
-/// Nothing where none is spelled so.
+/// Reads the call on processes of that name with those arguments, or one of a later group. Returns
+/// whether there is one.
 fn process_call(version: Version, name: &[u8], arguments: &[u8], call: &mut Call) -> bool
     ensures found { IfSome (then_some result call.new)
         (SpellsCall version (name.now ++ 32 ∷ arguments.now)) }
@@ -54,8 +54,8 @@ fn process_call(version: Version, name: &[u8], arguments: &[u8], call: &mut Call
     }
 }
 
-/// The call on ids of that name and with those arguments, or one that a later group has. Nothing
-/// where none is spelled so.
+/// Reads the call on ids of that name with those arguments, or one of a later group. Returns
+/// whether there is one.
 fn id_call(version: Version, name: &[u8], arguments: &[u8], call: &mut Call) -> bool
     ensures found { IfSome (then_some result call.new)
         (SpellsCall version (name.now ++ 32 ∷ arguments.now)) }
@@ -70,8 +70,8 @@ fn id_call(version: Version, name: &[u8], arguments: &[u8], call: &mut Call) -> 
     }
 }
 
-/// The call on descriptors of that name and with those arguments, or one that a later group has.
-/// Nothing where none is spelled so.
+/// Reads the call on descriptors of that name with those arguments, or one of a later group.
+/// Returns whether there is one.
 fn descriptor_call(version: Version, name: &[u8], arguments: &[u8], call: &mut Call) -> bool
     ensures found { IfSome (then_some result call.new)
         (SpellsCall version (name.now ++ 32 ∷ arguments.now)) }
@@ -95,8 +95,8 @@ fn descriptor_call(version: Version, name: &[u8], arguments: &[u8], call: &mut C
     transfer_call(version, name, arguments, call)
 }
 
-/// The call that moves bytes of that name and with those arguments, or one that a later group has.
-/// Nothing where none is spelled so.
+/// Reads the call of that name with those arguments that moves bytes, or one of a later group.
+/// Returns whether there is one.
 fn transfer_call(version: Version, name: &[u8], arguments: &[u8], call: &mut Call) -> bool
     ensures found { IfSome (then_some result call.new)
         (SpellsCall version (name.now ++ 32 ∷ arguments.now)) }
@@ -109,8 +109,8 @@ fn transfer_call(version: Version, name: &[u8], arguments: &[u8], call: &mut Cal
     }
 }
 
-/// The call on signals of that name and with those arguments, or one that a later group has. Nothing
-/// where none is spelled so.
+/// Reads the call on signals of that name with those arguments, or one of a later group. Returns
+/// whether there is one.
 fn signal_call(version: Version, name: &[u8], arguments: &[u8], call: &mut Call) -> bool
     ensures found { IfSome (then_some result call.new)
         (SpellsCall version (name.now ++ 32 ∷ arguments.now)) }
@@ -131,8 +131,8 @@ fn signal_call(version: Version, name: &[u8], arguments: &[u8], call: &mut Call)
     script_call(version, name, arguments, call)
 }
 
-/// The call of a script or on the console of that name and with those arguments. Nothing where none is
-/// spelled so.
+/// Reads the call of a script or on the console of that name with those arguments. Returns whether
+/// there is one.
 fn script_call(version: Version, name: &[u8], arguments: &[u8], call: &mut Call) -> bool
     ensures found { IfSome (then_some result call.new)
         (SpellsCall version (name.now ++ 32 ∷ arguments.now)) }
@@ -150,8 +150,7 @@ fn script_call(version: Version, name: &[u8], arguments: &[u8], call: &mut Call)
     false
 }
 
-/// Puts the call without an argument that a text spells where it is to stand, but none of
-/// transactions. Answers whether it spells one.
+/// Reads a call without arguments, but none of transactions. Returns whether the text spells one.
 pub fn bare_call(text: &[u8], call: &mut Call) -> bool
     ensures found { IfSome (then_some result call.new) (λ c. text.now ≡ call_text c) }
     ensures fits { IfSome (then_some result call.new) FitsCall }
@@ -174,8 +173,8 @@ pub fn bare_call(text: &[u8], call: &mut Call) -> bool
     false
 }
 
-/// Appends a call. The only error is that a growth of memory was refused: the text may then have some
-/// of the call behind what it had.
+/// Appends a call. The only error is a refused growth of memory: the text may then end with a part
+/// of the call.
 pub fn put_call(text: &mut String, call: &Call) -> Result<(), AllocError>
     ensures { OnOk result (string_bytes text.new ≡ string_bytes text.old ++ call_text call.now) }
 {
@@ -242,7 +241,7 @@ fn put_other_call(text: &mut String, call: &Call) -> Result<(), AllocError>
         Call::Getppid => words::put(text, "getppid"),
         Call::Sigpending => words::put(text, "sigpending"),
         Call::Sigreturn => words::put(text, "sigreturn"),
-        _ => Ok(()), // each other call is of an earlier group
+        _ => Ok(()), // all other calls are of earlier groups
     }
 }
 

@@ -8,13 +8,13 @@ use tx_base::NoMemory;
 /// Why the program wrote no text, or not the whole of it. It prints as its name, and its line.
 #[derive(Clone, Copy, PartialEq, Eq, Debug, Error)]
 pub enum Fault {
-    /// What stands at that line is none of the grammar's. Lines count from 1.
+    /// The grammar has no such line. Lines count from 1.
     #[error("F1 line {line}")]
     NotALine { line: u64 },
-    /// A label stands nowhere. That line is the first that uses it.
+    /// A label is not defined. That line is the first that uses it.
     #[error("F2 line {line}")]
     NoLabel { line: u64 },
-    /// The line is too long, or one too many. Line 0 stands for the text as a whole.
+    /// The line is too long, or one too many. Line 0 means the whole text.
     #[error("F3 line {line}")]
     TooLong { line: u64 },
     /// The reader failed, or was interrupted too often.

@@ -29,7 +29,7 @@ impl Instruction {
 }
 
 impl Numbers<'_> {
-    /// The number of the argument at a place, from 0, where that number stands in the call.
+    /// The argument at a place, from 0: what its slot holds, or else its number in the call.
     pub fn at(self, place: usize, number: i64) -> i64
         ensures { result ≡ number_at self.entry.slots.now self.entry.spellings.now place number }
     {

@@ -36,7 +36,7 @@ pub enum Spelling {
     Label(Name),
 }
 
-/// A call, and how each of its arguments is spelled. An argument that is not yet known stands as 0.
+/// A call, and how each of its arguments is spelled. An argument that is not yet known is 0.
 #[derive(Drop)]
 pub struct Instruction {
     pub call: Call,
@@ -96,7 +96,7 @@ impl Instruction {
         }
     }
 
-    /// The name of the label that stands for the point, where the call has one.
+    /// The name of the label that names the point, where the call has one.
     pub fn label(&self) -> Option<&Name>
         ensures { option_copied result ≡ label_in self.now.spellings.items }
     {

@@ -54,7 +54,7 @@ fn copy_instructions(
 }
 
 /// Reads the text of a program to its end: the program, or why there is none, as
-/// `read_program_text` tells it. A text of more than 1,048,576 bytes is `TooLong` at line 0. A
+/// `read_program_text` reports it. A text of more than 1,048,576 bytes is `TooLong` at line 0. A
 /// failure of the source, and its 1,001st interruption, is `Reader`.
 pub fn read_program<S: Source>(alloc: Global, source: &mut S) -> Result<Program, Fault>
     requires { IsFresh (S.counts source.old) }

@@ -1,4 +1,4 @@
-//! What ends are: the traits of what is read from and of what is written to.
+//! The traits of the ends: of what is read from, and of what is written to.
 
 /// What a read or a write did.
 #[derive(Clone, Copy)]
@@ -21,7 +21,8 @@ pub trait Source {
 
     ghost counts: { Self → Counts };
 
-    /// Reads bytes to the front of the buffer. None are read only at the end, or into no room.
+    /// Reads bytes to the front of the buffer. It reads none only at the end, or into an empty
+    /// buffer.
     fn read(&mut self, buffer: &mut [u8]) -> Flow
         requires { HasRoom (counts self.old) }
         ensures { Reads (left self.old) (counts self.old) result (left self.new) (counts self.new)

@@ -15,7 +15,7 @@ pub struct OverRead<R: Read + Drop> {
 impl<R: Read + Drop> OverRead<R> {
     ghost use Rattle.tx_lines.specs.Over.{read_counts, no_counts};
 
-    /// A source over that reader, which was neither interrupted nor failed so far.
+    /// A source over that reader, with no interruption or failure so far.
     pub fn new(reader: R) -> OverRead<R>
         ensures reader { result.reader ≡ reader }
         ensures counts { read_counts result ≡ no_counts }
@@ -63,7 +63,7 @@ pub struct OverWrite<W: Write + Drop> {
 impl<W: Write + Drop> OverWrite<W> {
     ghost use Rattle.tx_lines.specs.Over.{write_counts, no_counts};
 
-    /// A sink over that writer, which was not interrupted and did not fail so far.
+    /// A sink over that writer, with no interruption or failure so far.
     pub fn new(writer: W) -> OverWrite<W>
         ensures writer { result.writer ≡ writer }
         ensures counts { write_counts result ≡ no_counts }

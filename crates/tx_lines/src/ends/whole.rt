@@ -1,4 +1,4 @@
-//! Reads a text to its end, and writes one to its end.
+//! Reads and writes whole texts.
 ghost use Rattle.std.specs.Prelude.{◌≡◌};
 ghost use Rattle.tx_lines.specs.Ends.{IsFresh};
 ghost use Rattle.tx_lines.specs.Whole.{ReadsWhole, WritesWhole};
@@ -47,7 +47,7 @@ pub fn read_whole<S: Source>(alloc: Global, source: &mut S) -> Result<Vec<u8>, F
 }
 
 /// Writes a text to its end. A failure, a write that takes no byte, and the interruption after
-/// `INTERRUPTIONS`, is `Writer`; a front of the text is written then.
+/// `INTERRUPTIONS`, is `Writer`; then only a front of the text is written.
 pub fn write_whole<S: Sink>(sink: &mut S, text: &[u8]) -> Result<(), Fault>
     requires { IsFresh (S.counts sink.old) }
     ensures { WritesWhole (S.written sink.old) (S.counts sink.old) text.now result

@@ -22,9 +22,8 @@ pub fn put_bytes(text: &mut String, bytes: &[u8]) -> Result<(), AllocError>
     put_digits(text, bytes)
 }
 
-/// Appends two hex digits for each byte, and nothing where there is none. The only error is that a
-/// growth of memory was refused: the text may then have the digits of the first bytes behind what it
-/// had.
+/// Appends two hex digits for each byte, and nothing where there is none. The only error is a
+/// refused growth of memory: the text may then end with the digits of the first bytes.
 pub fn put_digits(text: &mut String, bytes: &[u8]) -> Result<(), AllocError>
     ensures { OnOk result
         (string_bytes text.new ≡ string_bytes text.old ++ encode_lower bytes.now) }
@@ -64,7 +63,7 @@ fn put_block(text: &mut String, bytes: &[u8]) -> Result<(), AllocError>
 }
 
 /// The hex digits of some bytes, the high one of each first.
-#[inline(always)] // vectors that go by memory cost more than what is done with them
+#[inline(always)] // passing vectors in memory costs more than the work on them
 fn digits_of(bytes: u8x16) -> [u8; 32]
     requires lanes { length bytes ≡ 16 }
     requires fits { Each1 (λ byte. byte < 256) bytes }

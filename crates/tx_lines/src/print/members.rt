@@ -47,7 +47,7 @@ pub fn put_set(text: &mut String, set: SigSet) -> Result<(), AllocError>
     put(text, dash(some))
 }
 
-/// What a list that has no number says.
+/// `-` for a list without numbers.
 pub fn dash(some: bool) -> &'static str
     ensures { result.now ≡ if some then [] else codes "-" }
 {

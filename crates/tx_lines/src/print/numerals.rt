@@ -6,7 +6,7 @@ use itoa::Buffer;
 use std::alloc::{AllocError, Global};
 use std::marker::Model;
 
-/// A number in decimal digits. To raise it by one is cheaper than to print the next number anew.
+/// A number in decimal digits. Raising it by one is cheaper than printing the next number.
 #[derive(Drop)]
 pub struct Numeral {
     number: u64,
@@ -41,8 +41,8 @@ impl Numeral {
         }
     }
 
-    /// Appends the number. The only error is that a growth of memory was refused: the text may then have
-    /// the first digits behind what it had.
+    /// Appends the number. The only error is a refused growth of memory: the text may then end
+    /// with the first digits.
     #[inline(always)] // each line of a report has one
     pub fn append_to(&self, text: &mut String) -> Result<(), AllocError>
         ensures { OnOk result
@@ -52,8 +52,8 @@ impl Numeral {
         text.push(self.last as char)
     }
 
-    /// Goes on to the next number. The only error is that a growth of memory was refused: it is another
-    /// number then.
+    /// Goes on to the next number. The only error is a refused growth of memory: the number is
+    /// then another one.
     #[inline(always)] // as `append_to`
     pub fn raise(&mut self) -> Result<(), AllocError>
         requires { self.old < 2 ^ 64 - 1 }
@@ -68,7 +68,7 @@ impl Numeral {
     }
 
     /// The same where the last digit is a nine.
-    #[inline(never)] // one number of ten asks it
+    #[inline(never)] // one number in ten needs it
     fn raise_front(&mut self) -> Result<(), AllocError>
         requires nine { self.old % 10 ≡ 9 }
         requires below { self.old < 2 ^ 64 - 1 }
@@ -85,7 +85,7 @@ impl Numeral {
     }
 }
 
-/// Appends the front of a number. Two or three digits, as most numbers have there, are copied with no call.
+/// Appends the front of a number. Two or three digits, as in most, are copied without a call.
 #[inline(always)] // as `Numeral::append_to`
 fn put_front(text: &mut String, front: &str) -> Result<(), AllocError>
     ensures { OnOk result (string_bytes text.new ≡ string_bytes text.old ++ front.now) }

@@ -8,8 +8,8 @@ use std::alloc::AllocError;
 use std::fmt::Write;
 use tx_base::Step;
 
-/// Appends the line of a step, without the line's end. The only error is that a growth of memory was
-/// refused: the text may then have some of the step behind what it had.
+/// Appends the line of a step, without its end. The only error is a refused growth of memory: the
+/// text may then end with a part of the step.
 pub fn put_step(text: &mut String, step: &Step) -> Result<(), AllocError>
     ensures { OnOk result (string_bytes text.new ≡ string_bytes text.old ++ step_text step.now) }
 {

@@ -8,8 +8,8 @@ use itoa::Buffer;
 use std::alloc::AllocError;
 use std::fmt::Write;
 
-/// Appends a word, or several with what parts them. The only error is that a growth of memory was
-/// refused: the text is then as it was.
+/// Appends a word, or several with their separators. The only error is a refused growth of memory:
+/// the text is then unchanged.
 pub fn put(text: &mut String, word: &str) -> Result<(), AllocError>
     ensures { OnOk result (string_bytes text.new ≡ string_bytes text.old ++ word.now) }
 {
@@ -21,7 +21,7 @@ pub fn put_number(text: &mut String, number: i64) -> Result<(), AllocError>
     ensures { OnOk result (string_bytes text.new ≡ string_bytes text.old ++ signed_decimal number) }
 {
     match u8::try_from(number) {
-        // Most answers are a digit, which is worth no buffer.
+        // Most answers are one digit, which needs no buffer.
         Ok(digit) if digit < 10 => put_digit(text, digit),
         _ => {
             let mut buffer = Buffer::new();
@@ -38,8 +38,8 @@ fn put_digit(text: &mut String, digit: u8) -> Result<(), AllocError>
     text.push((b'0' + digit) as char)
 }
 
-/// Appends a count or a process number in decimal digits. The only error is that a growth of memory
-/// was refused: the text is then as it was.
+/// Appends a count or a process number in decimal digits. The only error is a refused growth of
+/// memory: the text is then unchanged.
 pub fn put_count(text: &mut String, count: u64) -> Result<(), AllocError>
     ensures { OnOk result (string_bytes text.new ≡ string_bytes text.old ++ decimal count) }
 {

@@ -8,7 +8,7 @@ use arrayvec::ArrayVec;
 /// How many bytes one word may spell.
 const BYTES: usize = 64;
 
-/// Puts the bytes that a word spells, 1 to 64, where they are to stand. Answers whether it spells some.
+/// Reads the bytes that a word spells, 1 to 64. Returns whether it spells any.
 pub fn read_bytes(word: &[u8], bytes: &mut ArrayVec<u8, 64>) -> bool
     requires { bytes.old.items ≡ [] }
     ensures found { IfSome (then_some result bytes.new) (λ bytes.
@@ -32,7 +32,7 @@ pub fn read_bytes(word: &[u8], bytes: &mut ArrayVec<u8, 64>) -> bool
     pairs(word, bytes)
 }
 
-/// Puts the bytes of a word of pairs of digits where they are to stand.
+/// Reads the bytes of a word of pairs of digits.
 fn pairs(word: &[u8], bytes: &mut ArrayVec<u8, 64>) -> bool
     requires none { bytes.old.items ≡ [] }
     requires even { length word.now % 2 ≡ 0 }
@@ -55,7 +55,7 @@ fn pairs(word: &[u8], bytes: &mut ArrayVec<u8, 64>) -> bool
     true
 }
 
-/// The number that a lower-case hex digit stands for.
+/// The value of a lower-case hex digit.
 fn digit(byte: u8) -> Option<u8>
     ensures found { IfSome result (λ number. byte ≡ slice_index lower_digits number) }
     ensures small { IfSome result (λ number. number < 16) }

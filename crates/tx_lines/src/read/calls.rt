@@ -25,9 +25,9 @@ use crate::read::small::read_pid;
 use crate::read::split::{after_front, split_word};
 use tx_base::Call;
 
-/// Puts the call that a text of that version spells where it is to stand. Answers whether it spells one.
-/// The calls that schedules have most are told by their fronts, with no search for a first word.
-#[inline(always)] // it has few callers, and each line of a schedule asks it
+/// Reads the call that a text of that version spells. Returns whether it spells one. The most
+/// frequent calls are known by the front of their text, without a search for the first word.
+#[inline(always)] // it has few callers, and each line of a schedule needs it
 pub fn read_call(version: Version, text: &[u8], call: &mut Call) -> bool
     ensures found { IfSome (then_some result call.new) (SpellsCall version text.now) }
     ensures only { (c : Call) → FitsCall c → IsCallOf version c → text.now ≡ call_text c →
@@ -45,9 +45,9 @@ pub fn read_call(version: Version, text: &[u8], call: &mut Call) -> bool
     named_call(version, text, call)
 }
 
-/// As `read_call`, where the call is none of those. More calls that many schedules have are told by their
-/// fronts, the shorter names first; any other call is told by its first word.
-#[inline(always)] // `read_call` alone calls it; a call of its own costs 24
+/// As `read_call`, where the call is none of those. More frequent calls are known by their front,
+/// the shorter names first, and all others by their first word.
+#[inline(always)] // only `read_call` calls it
 fn named_call(version: Version, text: &[u8], call: &mut Call) -> bool
     ensures found { IfSome (then_some result call.new) (SpellsCall version text.now) }
     ensures only { (c : Call) → FitsCall c → IsCallOf version c → 1 ≤ group_of c →
@@ -130,7 +130,7 @@ fn longer_call(version: Version, text: &[u8], call: &mut Call) -> bool
 }
 
 /// As `named_call`, where the name has nine letters or more.
-#[inline(always)] // `longer_call` alone calls it
+#[inline(always)] // only `longer_call` calls it
 fn longest_call(version: Version, text: &[u8], call: &mut Call) -> bool
     ensures found { IfSome (then_some result call.new) (SpellsCall version text.now) }
     ensures only { (c : Call) → FitsCall c → IsCallOf version c → 1 ≤ group_of c →
@@ -171,7 +171,7 @@ fn after_console_write(text: &[u8]) -> Option<&[u8]>
     }
 }
 
-/// As `named_call`, by the first word alone.
+/// As `named_call`, only by the first word.
 fn other_call(version: Version, text: &[u8], call: &mut Call) -> bool
     ensures found { IfSome (then_some result call.new) (SpellsCall version text.now) }
     ensures only { (c : Call) → FitsCall c → IsCallOf version c → 1 ≤ group_of c →

@@ -10,7 +10,7 @@ use crate::read::header::Version;
 use crate::read::small::read_position;
 use crate::read::split::after_front;
 
-/// What a debugger is asked for.
+/// A command of a debugger.
 #[derive(Clone, Copy)]
 pub enum Command {
     /// To take back the newest entry that is made.
@@ -21,13 +21,14 @@ pub enum Command {
     Goto(u64),
     /// To print the state at the position.
     State,
-    /// To list the entries with the steps of a transaction put directly before the entry that commits
-    /// it, which has that number, and to tell whether it may count as one moment. Of version 2.
+    /// To list the entries with the steps of a transaction put directly before the entry that
+    /// commits it, which has that number, and to say whether it may count as one moment. Of
+    /// version 2.
     Moved(u64),
 }
 
 /// The command of that version that a line spells. Nothing where it is another line.
-#[inline(always)] // it has few callers, and each line of a walk asks it
+#[inline(always)] // it has few callers, and each line of a walk needs it
 pub fn read_command(version: Version, line: &[u8]) -> Option<Command>
     ensures found { IfSome result (λ c. line.now ≡ command_text c) }
     ensures fits { IfSome result (FitsCommand version) }

@@ -47,7 +47,7 @@ fn read_of(kind: TextKind, version: Version, line: &[u8]) -> Option<Header>
     Some(Header { version, count })
 }
 
-/// What stands before the number in a header.
+/// The text before the number in a header.
 fn front(kind: TextKind, version: Version) -> &'static [u8]
     ensures { result.now ≡ header_front kind version }
 {

@@ -40,8 +40,7 @@ pub fn read_instruction(version: Version, line: &[u8]) -> Option<Instruction>
     Some(Instruction { call, spellings })
 }
 
-/// Puts the call where it is to stand whose words these are, where 0 stands for what is not yet
-/// known. Answers whether there is one.
+/// Reads the call of these words, with 0 for what is not yet known. Returns whether there is one.
 fn read_plain(version: Version, text: &[u8], call: &mut Call) -> bool
     ensures found { IfSome (then_some result call.new) (λ c. text.now ≡ plain_text c) }
     ensures fits { IfSome (then_some result call.new) FitsCall }

@@ -8,9 +8,8 @@ ghost use Rattle.tx_base.specs.declared.names.Pid.{Pid};
 use crate::read::numbers::DIGITS;
 use tx_base::Pid;
 
-/// The number without a sign that stands before the first space, and the text after it: `0`, or
-/// up to 19 digits of which the first is not 0. Nothing where there is no space, or another word
-/// before it.
+/// The number without a sign before the first space, and the text after it: `0`, or up to 19
+/// digits of which the first is not 0. Nothing where there is no space, or another word before it.
 #[inline(always)] // as `split_number`
 pub fn split_unsigned(line: &[u8]) -> Option<(u64, &[u8])>
     ensures found { IfSome result (λ r. line.now ≡ decimal r.0 ++ 32 ∷ r.1.now) }
@@ -92,8 +91,8 @@ fn digits_before_space(line: &[u8]) -> Option<(u64, usize)>
     None
 }
 
-/// The process number, 0 to 65535, that stands before the first space, and the text after it. Nothing
-/// where there is no space, or no such number before it.
+/// The process number, 0 to 65535, before the first space, and the text after it. Nothing where
+/// there is no space, or no such number before it.
 pub fn split_pid(line: &[u8]) -> Option<(Pid, &[u8])>
     ensures found { IfSome result (λ r. line.now ≡ decimal r.0.0 ++ 32 ∷ r.1.now) }
     ensures fits { IfSome result (λ r. r.0.0 < 2 ^ 16) }
@@ -105,8 +104,8 @@ pub fn split_pid(line: &[u8]) -> Option<(Pid, &[u8])>
     Some((Pid(number), rest))
 }
 
-/// The number of 0 to 255 that stands before the first space, and the text after it. Nothing where
-/// there is no space, or no such number before it.
+/// The number of 0 to 255 before the first space, and the text after it. Nothing where there is no
+/// space, or no such number before it.
 pub fn split_byte(line: &[u8]) -> Option<(u8, &[u8])>
     ensures found { IfSome result (λ r. line.now ≡ decimal r.0 ++ 32 ∷ r.1.now) }
     ensures fits { IfSome result (λ r. r.0 < 2 ^ 8) }
@@ -118,8 +117,8 @@ pub fn split_byte(line: &[u8]) -> Option<(u8, &[u8])>
     Some((number, rest))
 }
 
-/// The point that stands before the first space, and the text after it. Nothing where there is no
-/// space, or no point before it.
+/// The point before the first space, and the text after it. Nothing where there is no space, or no
+/// point before it.
 pub fn split_point(line: &[u8]) -> Option<(u32, &[u8])>
     ensures found { IfSome result (λ r. line.now ≡ decimal r.0 ++ 32 ∷ r.1.now) }
     ensures fits { IfSome result (λ r. r.0 < 2 ^ 32) }

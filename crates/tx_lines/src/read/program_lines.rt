@@ -78,8 +78,7 @@ fn is_past(instructions: usize, labels: usize, text: &[u8]) -> bool
     }
 }
 
-/// Reads a line of a program of that version, and puts it behind those before it; and a label among
-/// the labels, too.
+/// Reads a line of a program of that version, and appends it; a label also to the labels.
 ///
 /// `NotALine` where it is none of a program's, or a label of a name that was met before; and
 /// `NoMemory` where a growth is refused.
@@ -113,7 +112,7 @@ pub fn push_line(
     }
 }
 
-/// Puts a line behind those before it.
+/// Appends a line.
 fn push(line: Line, lines: &mut Vec<Line>) -> Result<(), Fault>
     ensures more { OnOk result (lines.new.items ≡ lines.old.items ++ line ∷ []) }
     ensures fault { IfErr result (λ fault. fault ≡ NoMemory) }
@@ -124,7 +123,7 @@ fn push(line: Line, lines: &mut Vec<Line>) -> Result<(), Fault>
     Ok(())
 }
 
-/// Puts a label that comes after so many lines behind those before it.
+/// Appends a label that comes after so many lines.
 ///
 /// `NotALine` where its name was met before, and `NoMemory` where a growth is refused.
 fn push_label(name: &Name, count: usize, labels: &mut IndexMap<Name, u32>) -> Result<(), Fault>

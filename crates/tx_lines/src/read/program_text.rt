@@ -14,10 +14,11 @@ use indexmap::IndexMap;
 use std::alloc::Global;
 use tx_base::{Action, Call};
 
-/// The program whose text this is. The first line at fault decides: `TooLong` where it has more than
-/// 512 bytes, or is an instruction after 1,024 or a label after 256; and else `NotALine` where it has
-/// no end, or is none of the grammar's, or a label of a name that was met before. After all lines it is
-/// `NoLabel` where an instruction uses a label that is nowhere. A refused growth is `NoMemory`.
+/// The program whose text this is. The first line at fault decides: `TooLong` where it has more
+/// than 512 bytes, or is an instruction after 1,024 or a label after 256; and else `NotALine`
+/// where it has no end, or is none of the grammar's, or a label of a name that was met before.
+/// After all lines it is `NoLabel` where an instruction uses a label that is not defined. A
+/// refused growth is `NoMemory`.
 pub fn read_program_text(alloc: Global, text: &[u8]) -> Result<Program, Fault>
     ensures { ReadsProgram text.now result }
 {
@@ -31,10 +32,10 @@ pub fn read_program_text(alloc: Global, text: &[u8]) -> Result<Program, Fault>
     })
 }
 
-/// The instructions among some lines, each with the number that its label stands for.
+/// The instructions among some lines, each with the number that its label names.
 ///
-/// `NoLabel` at the first line whose instruction uses a label that is nowhere, and `NoMemory` where a
-/// growth is refused.
+/// `NoLabel` at the first line whose instruction uses a label that is not defined, and `NoMemory`
+/// where a growth is refused.
 pub fn link(
     alloc: Global,
     lines: &[Line],
@@ -59,8 +60,8 @@ pub fn link(
     Ok(instructions)
 }
 
-/// Puts the instruction of the line of that number, if it has one, behind those before it, with the
-/// number that its label stands for.
+/// Appends the instruction of the line of that number, if it has one, with the number that its
+/// label names.
 fn push_linked(
     number: u64,
     line: &Line,
@@ -85,8 +86,8 @@ fn push_linked(
     Ok(())
 }
 
-/// The instruction with the number that its label stands for, where it has one. Nothing where that
-/// label is nowhere.
+/// The instruction with the number that its label names, where it has one. Nothing where that
+/// label is not defined.
 fn linked(instruction: &Instruction, labels: &IndexMap<Name, u32>) -> Option<Instruction>
     ensures { result ≡ spec.linked labels.now.entries instruction.now }
 {

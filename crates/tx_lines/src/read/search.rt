@@ -1,10 +1,10 @@
-//! Where the first byte of a kind stands in a text.
+//! Finds the first byte of a kind in a text.
 ghost use Rattle.std.specs.Prelude.{◌≡◌, ◌≢◌, ℕ, ◌+◌, ◌<◌, ◌≤◌, IfSome, drop, length, option_map, slice_index, take};
 ghost use Rattle.tx_lines.specs.Words.{parts_at};
 
 use std::simd::prelude::*;
 
-/// Where the first byte of that kind stands. Nothing where there is none.
+/// The place of the first byte of that kind. Nothing where there is none.
 #[inline(never)] // inlined, its loops would keep the offsets that its callers go on with
 pub fn find(mark: u8, text: &[u8]) -> Option<usize>
     ensures place { option_map (λ at. (take at text.now, drop (at + 1) text.now)) result
@@ -22,8 +22,7 @@ pub fn find(mark: u8, text: &[u8]) -> Option<usize>
     find_by_eight(at, mark, text)
 }
 
-/// Where the first byte of that kind stands, of which none stands before that place; fewer than
-/// 16 bytes follow it. Nothing where there is none.
+/// As `find`, where none is before that place, and fewer than 16 bytes follow it.
 fn find_by_eight(from: usize, mark: u8, text: &[u8]) -> Option<usize>
     requires inside { from ≤ length text.now }
     requires before { (k : ℕ) → k < from → slice_index text.now k ≢ mark }
@@ -61,8 +60,7 @@ fn find_by_four(from: usize, mark: u8, text: &[u8]) -> Option<usize>
     }
 }
 
-/// Where the first byte of that kind stands, of which none stands before that place. Nothing where
-/// there is none.
+/// As `find`, where none is before that place.
 fn find_from(from: usize, mark: u8, text: &[u8]) -> Option<usize>
     requires { (k : ℕ) → k < from → slice_index text.now k ≢ mark }
     ensures place { option_map (λ at. (take at text.now, drop (at + 1) text.now)) result

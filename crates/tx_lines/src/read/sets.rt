@@ -27,7 +27,7 @@ pub fn read_set(word: &[u8]) -> Option<SigSet>
     read_members(0, word)
 }
 
-/// Whether the word stands for no signal.
+/// Whether the word is that of the empty set.
 fn is_dash(word: &[u8]) -> bool
     ensures { IsTrue result ↔ (word.now ≡ codes "-") }
 {

@@ -1,4 +1,4 @@
-//! The words of an instruction, and those among them that stand for a slot or a label.
+//! The words of an instruction, and those among them that name a slot or a label.
 ghost use Rattle.std.specs.Prelude.{◌≡◌, ◌+◌, ◌<◌, ◌≤◌, ◌++◌, ◌∷◌, [], IfNone, IfSome, IsTrue, false, true, length, map, nat_le};
 ghost use Rattle.std.specs.List.{list_all};
 ghost use Rattle.tx_lines.specs.Instructions as spec;
@@ -12,9 +12,9 @@ use arrayvec::ArrayVec;
 /// How many bytes a name may have.
 const NAME_BYTES: usize = 16;
 
-/// Puts a line where it is to stand, with `0` for each argument that is spelled by a slot or a label;
-/// and puts how each argument is spelled where that is to stand. Answers whether there are at most
-/// four: else what stands in both places is of no use.
+/// Puts a line, with `0` for each argument that is spelled by a slot or a label, and how each
+/// argument is spelled. Returns whether there are at most four arguments: if not, neither is of
+/// use.
 pub fn put_plain(
     line: &[u8],
     plain: &mut ArrayVec<u8, 512>,
@@ -41,7 +41,7 @@ pub fn put_plain(
     }
 }
 
-/// Puts the words of a text, each after a space, behind what stands there, as `put_plain` does.
+/// Appends the words of a text, each after a space, as `put_plain` does.
 fn put_arguments(
     text: &[u8],
     plain: &mut ArrayVec<u8, 512>,
@@ -73,7 +73,7 @@ fn put_arguments(
     }
 }
 
-/// Puts a word, after a space, behind what stands there, as `put_plain` does.
+/// Appends a word, after a space, as `put_plain` does.
 fn put_argument(word: &[u8], plain: &mut ArrayVec<u8, 512>, spellings: &mut ArrayVec<Spelling, 4>)
     requires room { length plain.old.items + 1 + length word.now ≤ 512 }
     requires few { length spellings.old.items < 4 }
@@ -91,7 +91,7 @@ fn put_argument(word: &[u8], plain: &mut ArrayVec<u8, 512>, spellings: &mut Arra
     spellings.push(spelling);
 }
 
-/// Puts bytes behind what stands there.
+/// Appends bytes.
 fn put_bytes(bytes: &[u8], plain: &mut ArrayVec<u8, 512>)
     requires { length plain.old.items + length bytes.now ≤ 512 }
     ensures { plain.new.items ≡ plain.old.items ++ bytes.now }
@@ -99,7 +99,7 @@ fn put_bytes(bytes: &[u8], plain: &mut ArrayVec<u8, 512>)
     let _fits = plain.try_extend_from_slice(bytes);
 }
 
-/// How a word of an instruction is to be read.
+/// How a word of an instruction is read.
 fn spelling_of(word: &[u8]) -> Spelling
     ensures { result ≡ spec.spelling_of word.now }
 {
@@ -115,7 +115,7 @@ fn spelling_of(word: &[u8]) -> Spelling
     Spelling::Plain
 }
 
-/// How a word is to be read that has that byte after a dollar.
+/// How a word with that byte after a dollar is read.
 fn slot_spelling(byte: u8) -> Spelling
     ensures { result ≡ spec.slot_spelling byte }
 {
@@ -125,7 +125,7 @@ fn slot_spelling(byte: u8) -> Spelling
     }
 }
 
-/// How a word is to be read that has those bytes after an at sign.
+/// How a word with those bytes after an at sign is read.
 fn label_spelling(bytes: &[u8]) -> Spelling
     ensures { result ≡ spec.label_spelling bytes.now }
 {
@@ -159,14 +159,14 @@ fn is_name(word: &[u8]) -> bool
     is_letter(word[0]) && are_name_bytes(&word[1..]) && word.len() <= NAME_BYTES
 }
 
-/// Whether all bytes may stand in a name.
+/// Whether all bytes may be in a name.
 fn are_name_bytes(bytes: &[u8]) -> bool
     ensures { result ≡ list_all spec.is_name_byte bytes.now }
 {
     bytes.iter().all(|byte| is_name_byte(*byte))
 }
 
-/// Whether a byte may stand in a name.
+/// Whether a byte may be in a name.
 fn is_name_byte(byte: u8) -> bool
     ensures { result ≡ spec.is_name_byte byte }
 {

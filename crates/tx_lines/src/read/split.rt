@@ -1,4 +1,4 @@
-//! The words of a line, parted by spaces, and the numbers among them.
+//! The words of a line, separated by spaces, and the numbers among them.
 ghost use Rattle.std.specs.Prelude.{◌≡◌, ◌≢◌, ◌<◌, ◌^◌, ◌++◌, ◌∷◌, ℤ, ℕ, List, FitsSigned, IfSome, IsSomeAnd, MatchOption, Some, option_map};
 ghost use Rattle.std.specs.Int.{w64};
 ghost use Rattle.std.specs.Fmt.{decimal, signed_decimal};
@@ -32,8 +32,8 @@ pub fn after_front<'a>(front: &[u8], line: &'a [u8]) -> Option<&'a [u8]>
     line.strip_prefix(front)
 }
 
-/// The number that stands before the first space, and the text after it. Nothing where there is
-/// no space, or no number before it.
+/// The number before the first space, and the text after it. Nothing where there is no space, or
+/// no number before it.
 #[inline(always)] // most lines have a number, of few digits
 pub fn split_number(line: &[u8]) -> Option<(i64, &[u8])>
     ensures found { IfSome result (λ r. line.now ≡ signed_decimal r.0 ++ 32 ∷ r.1.now) }
@@ -48,8 +48,8 @@ pub fn split_number(line: &[u8]) -> Option<(i64, &[u8])>
     }
 }
 
-/// The number that stands before the first space, with a sign or without, and the text after it:
-/// as `split_number`.
+/// The number before the first space, with a sign or without, and the text after it: as
+/// `split_number`.
 #[inline(never)] // inlined, it would keep `split_number` from being inlined
 fn split_any(line: &[u8]) -> Option<(i64, &[u8])>
     ensures found { IfSome result (λ r. line.now ≡ signed_decimal r.0 ++ 32 ∷ r.1.now) }

@@ -33,8 +33,8 @@ pub fn read_step(version: Version, line: &[u8]) -> Option<Step>
     }
 }
 
-/// Reads a step as `read_step` does, and puts it where it is to stand: for a caller that reads many,
-/// since a step is large. Answers whether the line spells one.
+/// Reads a step as `read_step` does, into the caller's own: for a caller that reads many, since a
+/// step is large. Returns whether the line spells one.
 pub fn read_step_into(version: Version, line: &[u8], step: &mut Step) -> bool
     ensures found { IfSome (then_some result step.new) (λ s. line.now ≡ step_text s) }
     ensures fits { IfSome (then_some result step.new) FitsStep }
@@ -48,7 +48,7 @@ pub fn read_step_into(version: Version, line: &[u8], step: &mut Step) -> bool
     }
 }
 
-/// Puts the step of the kernel that a line spells where it is to stand.
+/// Reads the step of the kernel that a line spells.
 fn kernel_step(line: &[u8], step: &mut Step) -> bool
     ensures found { IfSome (then_some result step.new) (λ s. line.now ≡ step_text s) }
     ensures fits { IfSome (then_some result step.new) FitsStep }
@@ -62,7 +62,7 @@ fn kernel_step(line: &[u8], step: &mut Step) -> bool
     }
 }
 
-/// Puts the abort of the transaction of the starter that a word spells where it is to stand.
+/// Reads the abort of the transaction of the starter that a word spells.
 fn kernel_abort(word: &[u8], step: &mut Step) -> bool
     ensures found { IfSome (then_some result step.new) (λ s.
         codes "kernel " ++ word.now ≡ step_text s) }
@@ -80,7 +80,7 @@ fn kernel_abort(word: &[u8], step: &mut Step) -> bool
     }
 }
 
-/// Puts the step of a process that a text spells, without its first word, where it is to stand.
+/// Reads the step of a process that a text spells, without its first word.
 fn process_step(version: Version, pid: Pid, rest: &[u8], step: &mut Step) -> bool
     requires { pid.0 < 2 ^ 16 }
     ensures found { IfSome (then_some result step.new) (λ s.
@@ -99,7 +99,7 @@ fn process_step(version: Version, pid: Pid, rest: &[u8], step: &mut Step) -> boo
     }
 }
 
-/// Puts the delivery of the signal that a word spells where it is to stand.
+/// Reads the delivery of the signal that a word spells.
 fn delivery(pid: Pid, word: &[u8], step: &mut Step) -> bool
     requires { pid.0 < 2 ^ 16 }
     ensures found { IfSome (then_some result step.new) (λ s.
@@ -118,7 +118,7 @@ fn delivery(pid: Pid, word: &[u8], step: &mut Step) -> bool
     }
 }
 
-/// Puts the call of a process that a text spells where it is to stand.
+/// Reads the call of a process that a text spells.
 fn call_step(version: Version, pid: Pid, rest: &[u8], step: &mut Step) -> bool
     requires { pid.0 < 2 ^ 16 }
     ensures found { IfSome (then_some result step.new) (λ s.
@@ -135,7 +135,7 @@ fn call_step(version: Version, pid: Pid, rest: &[u8], step: &mut Step) -> bool
     }
 }
 
-/// Makes a step a call of that process, whichever it is: only the process is written where it is one.
+/// Makes a step a call of that process. Where it is one already, only the process is written.
 fn make_call(pid: Pid, step: &mut Step)
     ensures { (call : Call) × (step.new ≡ Step.Call pid call) }
 {

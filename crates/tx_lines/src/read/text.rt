@@ -20,8 +20,8 @@ const STEP_BYTES: usize = 8;
 const FIRST_STEP: u64 = 2;
 
 /// The schedule whose text this is. The first line at fault decides: `TooLong` where it has more
-/// than 512 bytes or stands after 4,096 steps, and else `NotALine` where it has no end
-/// or is none of the grammar's. A refused growth is `NoMemory`.
+/// than 512 bytes or comes after 4,096 steps, and else `NotALine` where it has no end or is none
+/// of the grammar's. A refused growth is `NoMemory`.
 pub fn read_schedule(alloc: Global, text: &[u8]) -> Result<Schedule, Fault>
     ensures { ReadsSchedule text.now result }
 {
@@ -45,7 +45,7 @@ fn read_steps(alloc: Global, version: Version, text: &[u8]) -> Result<Vec<Step>,
     Ok(steps)
 }
 
-/// Reads the step of a line of a text of that version, and puts it behind those before it.
+/// Reads the step of a line of a text of that version, and appends it.
 ///
 /// `NotALine` where the line spells none, and `NoMemory` where a growth is refused.
 #[inline(always)] // a call of its own costs each line of a schedule 30 instructions

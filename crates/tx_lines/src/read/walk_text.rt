@@ -16,9 +16,9 @@ use std::alloc::Global;
 use tx_base::Step;
 
 /// The schedule and the commands whose text this is. The first line at fault decides: `TooLong`
-/// where it has more than 512 bytes, or stands after 4,096 steps and is not `debug`, or after
-/// 4,096 commands; and else `NotALine` where it has no end or is none of the grammar's, also at
-/// the line after the last one where no line is `debug`. A refused growth is `NoMemory`.
+/// where it has more than 512 bytes, or comes after 4,096 steps and is not `debug`, or after 4,096
+/// commands; and else `NotALine` where it has no end or is none of the grammar's, also at the line
+/// after the last one where no line is `debug`. A refused growth is `NoMemory`.
 pub fn read_walk(alloc: Global, text: &[u8]) -> Result<Walk, Fault>
     ensures { ReadsWalk text.now result }
 {
@@ -69,7 +69,7 @@ fn line_before_commands(count: usize, left: &[u8]) -> Result<(&[u8], &[u8]), Fau
     line_of(number, left)
 }
 
-/// Whether a line is there that is not `debug`.
+/// Whether there is a line that is not `debug`.
 fn is_past_steps(left: &[u8]) -> bool
     ensures { IsTrue result ↔ IsPastSteps 4096 left.now }
 {

@@ -47,7 +47,7 @@ fn access(word: &[u8]) -> Option<bool>
 }
 
 /// The call that stores bytes, by the text of its arguments.
-#[inline(always)] // `read_call` alone calls it, and stands in each of its callers
+#[inline(always)] // only `read_call` calls it, and is itself inlined
 pub fn store(arguments: &[u8], call: &mut Call) -> bool
     ensures found { IfSome (then_some result call.new) (λ c.
         codes "store " ++ arguments.now ≡ call_text c) }

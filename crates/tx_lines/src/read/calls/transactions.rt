@@ -11,8 +11,8 @@ use crate::read::header::Version;
 use crate::read::split::after_front;
 use tx_base::Call;
 
-/// Puts the call of transactions whose text goes on so after `sys_x` where it is to stand. Answers
-/// whether one does.
+/// Reads the call of transactions whose text goes on so after `sys_x`. Returns whether there is
+/// one.
 #[inline(always)] // as `store`
 pub fn transaction_call(version: Version, word: &[u8], call: &mut Call) -> bool
     ensures found { IfSome (then_some result call.new)
@@ -29,8 +29,8 @@ pub fn transaction_call(version: Version, word: &[u8], call: &mut Call) -> bool
     word == b"end".as_slice() && put(call, Some(Call::SysXend))
 }
 
-/// Puts the call that begins a transaction and whose text goes on so where it is to stand. Answers
-/// whether one does.
+/// Reads the call that begins a transaction and whose text goes on so. Returns whether there is
+/// one.
 fn begin(version: Version, rest: &[u8], call: &mut Call) -> bool
     ensures found { IfSome (then_some result call.new)
         (SpellsCall version (codes "sys_xbegin" ++ rest.now)) }

@@ -9,7 +9,7 @@ use Rattle.tx_lines.proofs.read.search.others.Goals as goal
 apart : (byte mark : ℕ) → eqb byte mark ≡ false → byte ≢ mark
 apart byte mark other same = let is = eq-eqb byte mark same in cc (other, is)
 
--- the lowest set bit stands for the first byte of the kind
+-- the lowest set bit is that of the first byte of the kind
 counted : (lanes : ℕ) (text : List ℕ) (at mark bits : ℕ) → lanes ≤ 64 → at + lanes ≤ length text → bits ≡ mask_l (map (λ byte. eqb byte mark) (chunk at lanes text)) → bits ≢ 0
     → count_trailing_zeros 64 bits ≡ prefix_len (λ byte. not (eqb byte mark)) (chunk at lanes text)
 counted lanes text at mark bits few room hits some =

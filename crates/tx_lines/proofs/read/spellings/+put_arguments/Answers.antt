@@ -39,20 +39,20 @@ pub returns-in-Some-clause-plain : goal.returns-in-Some-clause-plain
 returns-in-Some-clause-plain t c holds =
     let words = words_split c.args.text.now c.in-Some.word.now c.in-Some.rest.now (sym c.in-Some.ensures) in
     let plain : c.put_argument.new.plain.items ≡ c.args.plain.now.items ++ 32 ∷ plain_word c.in-Some.word.now = c.put_argument.ensures.plain in
-    let behind : List ℕ = 32 ∷ joined (plain_word (words_of c.in-Some.rest.now).0) (map plain_word (words_of c.in-Some.rest.now).1) in
+    let following : List ℕ = 32 ∷ joined (plain_word (words_of c.in-Some.rest.now).0) (map plain_word (words_of c.in-Some.rest.now).1) in
     rw words (
-    c.put_arguments.ensures.plain holds ∙ ap (λ (front : List ℕ). front ++ behind) plain ∙ append_assoc c.args.plain.now.items (32 ∷ plain_word c.in-Some.word.now) behind
+    c.put_arguments.ensures.plain holds ∙ ap (λ (front : List ℕ). front ++ following) plain ∙ append_assoc c.args.plain.now.items (32 ∷ plain_word c.in-Some.word.now) following
     )
 
 pub returns-in-Some-clause-spellings : goal.returns-in-Some-clause-spellings
 returns-in-Some-clause-spellings t c holds =
     let words = words_split c.args.text.now c.in-Some.word.now c.in-Some.rest.now (sym c.in-Some.ensures) in
     let spellings : c.put_argument.new.spellings.items ≡ c.args.spellings.now.items ++ spec.spelling_of c.in-Some.word.now ∷ [] = c.put_argument.ensures.spellings in
-    let behind : List Spelling = spec.spelling_of (words_of c.in-Some.rest.now).0 ∷ map spec.spelling_of (words_of c.in-Some.rest.now).1 in
+    let following : List Spelling = spec.spelling_of (words_of c.in-Some.rest.now).0 ∷ map spec.spelling_of (words_of c.in-Some.rest.now).1 in
     rw words (
     c.put_arguments.ensures.spellings holds
-    ∙ ap (λ (front : List Spelling). front ++ behind) spellings
-    ∙ append_assoc c.args.spellings.now.items (spec.spelling_of c.in-Some.word.now ∷ []) behind
+    ∙ ap (λ (front : List Spelling). front ++ following) spellings
+    ∙ append_assoc c.args.spellings.now.items (spec.spelling_of c.in-Some.word.now ∷ []) following
     )
 
 pub returns-in-None-clause-few : goal.returns-in-None-clause-few

@@ -28,14 +28,14 @@ pub returns-in-Some-clause-plain : goal.returns-in-Some-clause-plain
 returns-in-Some-clause-plain c holds =
     let words = words_split c.args.line.now c.in-Some.name.now c.in-Some.arguments.now (sym c.in-Some.ensures) in
     let name : c.put_bytes.new.plain.items ≡ c.in-Some.name.now = c.put_bytes.ensures ∙ ap (λ (front : List ℕ). front ++ c.in-Some.name.now) c.requires.no_text in
-    let behind : List ℕ = 32 ∷ joined (plain_word (words_of c.in-Some.arguments.now).0) (map plain_word (words_of c.in-Some.arguments.now).1) in
-    rw words (c.put_arguments.ensures.plain holds ∙ ap (λ (front : List ℕ). front ++ behind) name)
+    let following : List ℕ = 32 ∷ joined (plain_word (words_of c.in-Some.arguments.now).0) (map plain_word (words_of c.in-Some.arguments.now).1) in
+    rw words (c.put_arguments.ensures.plain holds ∙ ap (λ (front : List ℕ). front ++ following) name)
 
 pub returns-in-Some-clause-spellings : goal.returns-in-Some-clause-spellings
 returns-in-Some-clause-spellings c holds =
     let words = words_split c.args.line.now c.in-Some.name.now c.in-Some.arguments.now (sym c.in-Some.ensures) in
-    let behind : List Spelling = spec.spelling_of (words_of c.in-Some.arguments.now).0 ∷ map spec.spelling_of (words_of c.in-Some.arguments.now).1 in
-    rw words (c.put_arguments.ensures.spellings holds ∙ ap (λ (front : List Spelling). front ++ behind) c.requires.no_spelling)
+    let following : List Spelling = spec.spelling_of (words_of c.in-Some.arguments.now).0 ∷ map spec.spelling_of (words_of c.in-Some.arguments.now).1 in
+    rw words (c.put_arguments.ensures.spellings holds ∙ ap (λ (front : List Spelling). front ++ following) c.requires.no_spelling)
 
 pub returns-in-None-clause-few : goal.returns-in-None-clause-few
 returns-in-None-clause-few c = let whole = words_whole c.args.line.now (sym c.in-None.ensures) in rw whole refl
