@@ -30,7 +30,7 @@ pub enum Response {
     NoCommit,
 }
 
-/// Appends a response. The only error is that a growth of memory was refused: the text may then have some
+/// Appends a response. The only error is a refused growth of memory: the text may then have some
 /// of it.
 #[inline(always)] // as `walk`
 pub fn put_response(

@@ -25,10 +25,10 @@ within_word byte above =
     let hash = ne_eqb byte 35 (λ e. omega arith) in
     rw (space, tab, hash) refl
 
--- in a word no other begins
-words_behind : (bytes rest : List ℕ) → AreWithin 35 128 bytes → words_from InWord (bytes ++ rest) ≡ words_from InWord rest
-words_behind [] rest are = refl
-words_behind (byte ∷ bytes) rest are = rw (within_word byte are.0) (words_behind bytes rest are.2)
+-- no other word begins in a word
+words_after : (bytes rest : List ℕ) → AreWithin 35 128 bytes → words_from InWord (bytes ++ rest) ≡ words_from InWord rest
+words_after [] rest are = refl
+words_after (byte ∷ bytes) rest are = rw (within_word byte are.0) (words_after bytes rest are.2)
 
 -- a word goes up to the next space
 word_whole : (bytes : List ℕ) (words : List (List ℕ)) → AreWithin 35 128 bytes → word_from InWord (bytes ++ spaced words) ≡ bytes
@@ -41,14 +41,14 @@ first_spaced [] words bare = absurd (omega (arith, bare.some))
 first_spaced (byte ∷ bytes) words bare =
     rw (after_bare byte bare.within.0)
     (ap (λ (w : List ℕ). (byte ∷ w) ∷ words_from InWord (bytes ++ spaced words)) (word_whole bytes words bare.within.2)
-    ∙ ap (λ (ws : List (List ℕ)). (byte ∷ bytes) ∷ ws) (words_behind bytes (spaced words) bare.within.2))
+    ∙ ap (λ (ws : List (List ℕ)). (byte ∷ bytes) ∷ ws) (words_after bytes (spaced words) bare.within.2))
 
 pub words_spaced : (word : List ℕ) (words : List (List ℕ)) → IsBare word → AllBare words → words_in (word ++ spaced words) ≡ word ∷ words
 words_spaced word [] bare others = first_spaced word [] bare
 words_spaced word (next ∷ words) bare others =
     first_spaced word (next ∷ words) bare ∙ ap (λ (ws : List (List ℕ)). word ∷ ws) (words_spaced next words others.0 others.1)
 
--- words, and what follows behind one space more
+-- words, and what follows after one more space
 before_space : (bytes rest : List ℕ) → AreWithin 35 128 bytes → word_from InWord (bytes ++ 32 ∷ rest) ≡ bytes
 before_space [] rest are = refl
 before_space (byte ∷ bytes) rest are = rw (within_word byte are.0) (ap (λ (t : List ℕ). byte ∷ t) (before_space bytes rest are.2))
@@ -58,7 +58,7 @@ first_before [] rest bare = absurd (omega (arith, bare.some))
 first_before (byte ∷ bytes) rest bare =
     rw (after_bare byte bare.within.0)
     (ap (λ (w : List ℕ). (byte ∷ w) ∷ words_from InWord (bytes ++ 32 ∷ rest)) (before_space bytes rest bare.within.2)
-    ∙ ap (λ (ws : List (List ℕ)). (byte ∷ bytes) ∷ ws) (words_behind bytes (32 ∷ rest) bare.within.2))
+    ∙ ap (λ (ws : List (List ℕ)). (byte ∷ bytes) ∷ ws) (words_after bytes (32 ∷ rest) bare.within.2))
 
 pub words_before : (word : List ℕ) (words : List (List ℕ)) (rest : List ℕ) → IsBare word → AllBare words →
     words_in (word ++ (spaced words ++ 32 ∷ rest)) ≡ word ∷ (words ++ words_in rest)

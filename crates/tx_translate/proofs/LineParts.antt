@@ -71,5 +71,5 @@ shorter_by : (text : List ℕ) (found : Option (List ℕ)) → after_line text �
 shorter_by text None after some = some
 shorter_by text (Some rest) after some = shorter_rest text rest after
 
-pub behind_shorter : (text : List ℕ) → 0 < length text → length (behind text) < length text
-behind_shorter text some = shorter_by text (after_line text) refl some
+pub rest_shorter : (text : List ℕ) → 0 < length text → length (behind text) < length text
+rest_shorter text some = shorter_by text (after_line text) refl some

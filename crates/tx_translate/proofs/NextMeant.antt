@@ -105,7 +105,7 @@ numbers_next : (stage : Stage) (own : ℕ) (line : List ℕ) (found : Option (Li
 numbers_next stage own line None numbers some = absurd (both_ways false refl some)
 numbers_next stage own line (Some plain) numbers some = refl
 
--- its number, and those of the lines behind it
+-- its number, and those of the lines after it
 pub own_next : (text : List ℕ) (number : ℕ) (stage : Stage) (own : ℕ) (line : List ℕ) (lines : List (List ℕ)) → MeanFrom text number stage own (line ∷ lines) → is_some (plain_line stage line) ≡ true →
     (line_in text number ≡ own) × MeanFrom text (number + 1) (stage_after stage (words_in line)) (own + 1) lines
 own_next text number stage own line lines mean some =
@@ -142,18 +142,18 @@ HasNoSpace [] = Unit {0}
 HasNoSpace (byte ∷ bytes) = (byte ≢ 32) × HasNoSpace bytes
 
 -- words one after another begin with a word that the first of them begins with
-front_kept : (front first tail rest : List ℕ) (others : List (List ℕ)) → HasNoSpace front → first ++ spaced others ≡ front ++ tail → (behind : List ℕ) × (first ++ rest ≡ front ++ behind)
+front_kept : (front first tail rest : List ℕ) (others : List (List ℕ)) → HasNoSpace front → first ++ spaced others ≡ front ++ tail → (following : List ℕ) × (first ++ rest ≡ front ++ following)
 front_kept [] first tail rest others none same = (first ++ rest, refl)
 front_kept (byte ∷ front) [] tail rest [] none same = absurd (cc)
 front_kept (byte ∷ front) [] tail rest (word ∷ others) none same =
     let space : 32 ≡ byte = cc in absurd (none.0 (sym space))
 front_kept (byte ∷ front) (first ∷ firsts) tail rest others none same =
     let here : first ≡ byte = cc in
-    let behind : firsts ++ spaced others ≡ front ++ tail = cc in
-    let later = front_kept front firsts tail rest others none.1 behind in
+    let following : firsts ++ spaced others ≡ front ++ tail = cc in
+    let later = front_kept front firsts tail rest others none.1 following in
     (later.0, ap (λ (t : List ℕ). first ∷ t) later.1 ∙ ap (λ (b : ℕ). b ∷ (front ++ later.0)) here)
 
--- a word that stands first in a line of its own kind
+-- a word that is first in a line of its own kind
 abbrev pub IsOpening : List ℕ → Type 0
 IsOpening word = (word ≡ codes "label") ⊎ (word ≡ codes "debug")
 

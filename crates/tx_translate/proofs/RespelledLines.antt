@@ -18,7 +18,7 @@ use Rattle.tx_lines.specs.Schedule.{FitsStepOf}
 use Rattle.tx_lines.specs.declared.read.header.TextKind.TheVariants.{Schedule}
 use Rattle.tx_lines.specs.declared.read.header.Version.{Version}
 use Rattle.tx_translate.specs.Lines.{plain_line, plain_of_words, plain_others, short_or, spaced}
-use Rattle.tx_translate.specs.Respelled.{spaced_byte, squeezed, IsRetold}
+use Rattle.tx_translate.specs.Respelled.{spaced_byte, squeezed, IsRespelled}
 use Rattle.tx_translate.specs.SignalNames.{number_or}
 use Rattle.tx_translate.specs.Words.{after_blank, after_word_byte, is_blank, next_from, word_from, words_from, words_in}
 use Rattle.tx_translate.specs.declared.reading.Reading.{Reading}
@@ -39,7 +39,7 @@ short_means line plain means short short_plain =
     let plain_fits : nat_lt 512 (length plain) ≡ false = grind (arith, nat_tests, short_plain) in
     rw line_fits (ap (short_or line) means ∙ rw plain_fits refl)
 
--- the last space of a line parts it in one way
+-- the last space of a line splits it in one way
 has_space : (front rest : List ℕ) → AreWithin 35 128 (front ++ 32 ∷ rest) → ⊥
 has_space [] rest are = omega (arith, are.0)
 has_space (byte ∷ front) rest are = has_space front rest are.2
@@ -68,7 +68,7 @@ line_last : (first : List ℕ) (words : List (List ℕ)) (last : List ℕ) → f
 line_last first words last = ap (λ (t : List ℕ). first ++ t) (spaced_last words last) ∙ sym (append_assoc first (spaced words) (32 ∷ last))
 
 -- a line is a front, which ends with a space, and a last word
-pub record IsTold (line front word : List ℕ) : Type 0 where
+pub record EndsWithWord (line front word : List ℕ) : Type 0 where
   pub last : List ℕ
   pub words : List ℕ
   pub parts : line ≡ front ++ last
@@ -77,9 +77,9 @@ pub record IsTold (line front word : List ℕ) : Type 0 where
   pub short : length line ≤ 512
   pub short_front : length front ≤ 384
 
-pub told_line : (line front last word rest : List ℕ) (at : ℕ) → front ≡ take at line → last ≡ drop at line → (words : List ℕ) × (front ≡ words ++ 32 ∷ []) →
-    words_in last ≡ word ∷ words_in rest → rest ≡ [] → length line ≤ 512 → length front ≤ 384 → IsTold line front word
-told_line line front last word rest at is_front is_last space one none short short_front =
+pub ends_with_word : (line front last word rest : List ℕ) (at : ℕ) → front ≡ take at line → last ≡ drop at line → (words : List ℕ) × (front ≡ words ++ 32 ∷ []) →
+    words_in last ≡ word ∷ words_in rest → rest ≡ [] → length line ≤ 512 → length front ≤ 384 → EndsWithWord line front word
+ends_with_word line front last word rest at is_front is_last space one none short short_front =
     record {
       last = last;
       words = space.0;
@@ -91,80 +91,80 @@ told_line line front last word rest at is_front is_last space one none short sho
     }
 
 -- what holds of a step that is read
-pub told_of : (found : Bool) (step : Step) (Is Also Then : Step → Type 0) → IfSome (then_some found step) Is → IfSome (then_some found step) Also → (Is step → Also step → Then step) →
+pub holds_of : (found : Bool) (step : Step) (Is Also Then : Step → Type 0) → IfSome (then_some found step) Is → IfSome (then_some found step) Also → (Is step → Also step → Then step) →
     IfSome (then_some found step) Then
-told_of true step Is Also Then is also to = to is also
-told_of false step Is Also Then is also to = tt
+holds_of true step Is Also Then is also to = to is also
+holds_of false step Is Also Then is also to = tt
 
 -- with another last word its front is the front of a line that stays itself
-retold_line : (line front word first last plain : List ℕ) (words : List (List ℕ)) → IsTold line front word → IsBare first → AllBare words → AreWithin 35 128 last → bytes_eq first (codes "name") ≡ false →
+respelled_line : (line front word first last plain : List ℕ) (words : List (List ℕ)) → EndsWithWord line front word → IsBare first → AllBare words → AreWithin 35 128 last → bytes_eq first (codes "name") ≡ false →
     front ++ codes "10" ≡ first ++ spaced (words ++ last ∷ []) → plain_others (Within Schedule) first (words ++ word ∷ []) ≡ words ++ plain ∷ [] → length plain ≤ 128 →
     plain_line (Within Schedule) line ≡ Some (first ++ spaced (words ++ plain ∷ []))
-retold_line line front word first last plain words told first_bare words_bare within other same means few =
-    let before : told.words ++ 32 ∷ codes "10" ≡ (first ++ spaced words) ++ 32 ∷ last =
-    sym (append_assoc told.words (32 ∷ []) (codes "10")) ∙ ap (λ (t : List ℕ). t ++ codes "10") (sym told.space) ∙ same ∙ line_last first words last in
-    let parted = last_space told.words (codes "10") (first ++ spaced words) last ((bare (codes "10") refl).within) within before in
-    let spelled : line ≡ first ++ (spaced words ++ 32 ∷ told.last) =
-    told.parts ∙ ap (λ (t : List ℕ). t ++ told.last) told.space ∙ append_assoc told.words (32 ∷ []) told.last
-    ∙ ap (λ (t : List ℕ). t ++ 32 ∷ told.last) parted.front_same ∙ append_assoc first (spaced words) (32 ∷ told.last) in
+respelled_line line front word first last plain words ends first_bare words_bare within other same means few =
+    let before : ends.words ++ 32 ∷ codes "10" ≡ (first ++ spaced words) ++ 32 ∷ last =
+    sym (append_assoc ends.words (32 ∷ []) (codes "10")) ∙ ap (λ (t : List ℕ). t ++ codes "10") (sym ends.space) ∙ same ∙ line_last first words last in
+    let parted = last_space ends.words (codes "10") (first ++ spaced words) last ((bare (codes "10") refl).within) within before in
+    let spelled : line ≡ first ++ (spaced words ++ 32 ∷ ends.last) =
+    ends.parts ∙ ap (λ (t : List ℕ). t ++ ends.last) ends.space ∙ append_assoc ends.words (32 ∷ []) ends.last
+    ∙ ap (λ (t : List ℕ). t ++ 32 ∷ ends.last) parted.front_same ∙ append_assoc first (spaced words) (32 ∷ ends.last) in
     let found : words_in line ≡ first ∷ (words ++ word ∷ []) =
-    ap words_in spelled ∙ words_before first words told.last first_bare words_bare ∙ ap (λ (ws : List (List ℕ)). first ∷ (words ++ ws)) told.one in
-    let size : length (first ++ spaced (words ++ plain ∷ [])) ≡ length told.words + length {A = ℕ} (32 ∷ plain) =
-    ap length (line_last first words plain ∙ ap (λ (t : List ℕ). t ++ 32 ∷ plain) (sym parted.front_same)) ∙ length-append told.words (32 ∷ plain) in
-    let front_size : length front ≡ length told.words + 1 = ap length told.space ∙ length-append told.words (32 ∷ []) in
+    ap words_in spelled ∙ words_before first words ends.last first_bare words_bare ∙ ap (λ (ws : List (List ℕ)). first ∷ (words ++ ws)) ends.one in
+    let size : length (first ++ spaced (words ++ plain ∷ [])) ≡ length ends.words + length {A = ℕ} (32 ∷ plain) =
+    ap length (line_last first words plain ∙ ap (λ (t : List ℕ). t ++ 32 ∷ plain) (sym parted.front_same)) ∙ length-append ends.words (32 ∷ plain) in
+    let front_size : length front ≡ length ends.words + 1 = ap length ends.space ∙ length-append ends.words (32 ∷ []) in
     short_means line (first ++ spaced (words ++ plain ∷ []))
     (ap (plain_of_words (Within Schedule)) found ∙ unnamed_means (Within Schedule) first (words ++ word ∷ []) (other_unnamed first (words ++ word ∷ []) other)
     ∙ ap (λ (others : List (List ℕ)). Some (first ++ spaced others)) means)
-    told.short (omega (arith, size, front_size, told.short_front, few))
+    ends.short (omega (arith, size, front_size, ends.short_front, few))
 
--- such a line means the step that its last word tells
-pub retold_means : (line front word : List ℕ) (before step : Step) → IsTold line front word → front ++ codes "10" ≡ step_text before → FitsStep before → IsRetold word before step →
+-- such a line means the step with what its last word means
+pub respelled_means : (line front word : List ℕ) (before step : Step) → EndsWithWord line front word → front ++ codes "10" ≡ step_text before → FitsStep before → IsRespelled word before step →
     plain_line (Within Schedule) line ≡ Some (step_text step)
 unfolding step_stays
-retold_means line front word (steps.Call pid (call.Store address old)) step told same fits is =
+respelled_means line front word (steps.Call pid (call.Store address old)) step ends same fits is =
     let bytes = is.0 in
     let stays = step_stays (steps.Call pid (call.Store address old)) fits in
     let few : length (encode_lower bytes.items) ≤ 128 = omega (arith, length-encode_with lower_digits bytes.items, is.3.2) in
-    retold_line line front word (decimal pid.0) (encode_lower old.items) (encode_lower bytes.items) (codes "store" ∷ signed_decimal address ∷ [])
-    told stays.first_bare (stays.others_bare.0, (stays.others_bare.1.0, tt)) stays.others_bare.1.1.0.within (decimal_unnamed pid.0 (omega (arith, fits.0))) (same ∙ stays.spelled)
+    respelled_line line front word (decimal pid.0) (encode_lower old.items) (encode_lower bytes.items) (codes "store" ∷ signed_decimal address ∷ [])
+    ends stays.first_bare (stays.others_bare.0, (stays.others_bare.1.0, tt)) stays.others_bare.1.1.0.within (decimal_unnamed pid.0 (omega (arith, fits.0))) (same ∙ stays.spelled)
     (ap (λ (w : List ℕ). codes "store" ∷ signed_decimal address ∷ w ∷ []) is.2) few
     ∙ ap Some (sym ((step_stays (steps.Call pid (call.Store address bytes)) (fits.0, (fits.1.0, (is.3, tt)))).spelled) ∙ ap step_text (sym is.1))
-retold_means line front word (steps.Call pid (call.Kill target old)) step told same fits is =
+respelled_means line front word (steps.Call pid (call.Kill target old)) step ends same fits is =
     let signo = is.0 in
     let small : signo < 64 = is.2.1 in
     let stays = step_stays (steps.Call pid (call.Kill target old)) fits in
     let few = length-decimal-le 2 signo (omega arith) (omega arith) (omega arith) in
-    retold_line line front word (decimal pid.0) (signed_decimal old) (decimal signo) (codes "kill" ∷ signed_decimal target ∷ [])
-    told stays.first_bare (stays.others_bare.0, (stays.others_bare.1.0, tt)) stays.others_bare.1.1.0.within (decimal_unnamed pid.0 (omega (arith, fits.0))) (same ∙ stays.spelled)
+    respelled_line line front word (decimal pid.0) (signed_decimal old) (decimal signo) (codes "kill" ∷ signed_decimal target ∷ [])
+    ends stays.first_bare (stays.others_bare.0, (stays.others_bare.1.0, tt)) stays.others_bare.1.1.0.within (decimal_unnamed pid.0 (omega (arith, fits.0))) (same ∙ stays.spelled)
     (ap (λ (n : Option ℕ). codes "kill" ∷ signed_decimal target ∷ number_or word n ∷ []) is.2.0) (omega (arith, few))
     ∙ ap Some (sym ((step_stays (steps.Call pid (call.Kill target (pos signo))) (fits.0, (fits.1.0, (pos_fits signo (omega arith), tt)))).spelled) ∙ ap step_text (sym is.1))
-retold_means line front word (steps.Deliver pid old) step told same fits is =
+respelled_means line front word (steps.Deliver pid old) step ends same fits is =
     let signo = is.0 in
     let small : signo.0 < 64 = is.2.1 in
     let stays = step_stays (steps.Deliver pid old) fits in
     let few = length-decimal-le 2 signo.0 (omega arith) (omega arith) (omega arith) in
-    retold_line line front word (decimal pid.0) (decimal old.0) (decimal signo.0) (codes "deliver" ∷ [])
-    told stays.first_bare (stays.others_bare.0, tt) stays.others_bare.1.0.within (decimal_unnamed pid.0 (omega (arith, fits.0))) (same ∙ stays.spelled)
+    respelled_line line front word (decimal pid.0) (decimal old.0) (decimal signo.0) (codes "deliver" ∷ [])
+    ends stays.first_bare (stays.others_bare.0, tt) stays.others_bare.1.0.within (decimal_unnamed pid.0 (omega (arith, fits.0))) (same ∙ stays.spelled)
     (ap (λ (n : Option ℕ). codes "deliver" ∷ number_or word n ∷ []) is.2.0) (omega (arith, few))
     ∙ ap Some (sym ((step_stays (steps.Deliver pid signo) (fits.0, omega arith)).spelled) ∙ ap step_text (sym is.1))
-retold_means line front word before step told same fits is = absurd is
+respelled_means line front word before step ends same fits is = absurd is
 
 -- a text can hold it, in each version
-pub retold_fits : (version : Version) (word : List ℕ) (before step : Step) → FitsStep before → IsRetold word before step → FitsStepOf version step
-retold_fits version word (steps.Call pid (call.Store address old)) step fits is =
+pub respelled_fits : (version : Version) (word : List ℕ) (before step : Step) → FitsStep before → IsRespelled word before step → FitsStepOf version step
+respelled_fits version word (steps.Call pid (call.Store address old)) step fits is =
     rw is.1 (record { fits = (fits.0, (fits.1.0, (is.3, tt))); of = tt })
-retold_fits version word (steps.Call pid (call.Kill target old)) step fits is =
+respelled_fits version word (steps.Call pid (call.Kill target old)) step fits is =
     let small : is.0 < 64 = is.2.1 in
     rw is.1 (record { fits = (fits.0, (fits.1.0, (pos_fits is.0 (omega arith), tt))); of = tt })
-retold_fits version word (steps.Deliver pid old) step fits is =
+respelled_fits version word (steps.Deliver pid old) step fits is =
     let small : is.0.0 < 64 = is.2.1 in
     rw is.1 (record { fits = (fits.0, omega arith); of = tt })
-retold_fits version word before step fits is = absurd is
+respelled_fits version word before step fits is = absurd is
 
--- where a word goes on, behind blanks or not
-abbrev behind : Bool → Reading
-behind true = Between
-behind false = InWord
+-- where a word goes on, after blanks or not
+abbrev reading_of : Bool → Reading
+reading_of true = Between
+reading_of false = InWord
 
 abbrev word_on : Bool → List ℕ → List ℕ
 word_on true line = []
@@ -172,7 +172,7 @@ word_on false line = word_from InWord line
 
 -- the words of a line and those of what it is squeezed to, from within a word on
 record AreSame (gap : Bool) (text line : List ℕ) : Type 0 where
-  words : words_from InWord text ≡ words_from (behind gap) line
+  words : words_from InWord text ≡ words_from (reading_of gap) line
   word : word_from InWord text ≡ word_on gap line
 
 abbrev no_bytes : List ℕ
@@ -183,11 +183,11 @@ no_line = None
 
 -- a byte of a word, by its tests
 record IsPlain (byte : ℕ) : Type 0 where
-  behind_blank : after_blank byte ≡ InWord
-  behind_word : after_word_byte byte ≡ InWord
+  blank_after : after_blank byte ≡ InWord
+  word_after : after_word_byte byte ≡ InWord
 
 is_plain : (byte : ℕ) → is_blank byte ≡ false → nat_eq byte 35 ≡ false → nat_eq byte 34 ≡ false → IsPlain byte
-is_plain byte blank hash quote = record { behind_blank = rw (blank, hash, quote) refl; behind_word = rw (blank, hash) refl }
+is_plain byte blank hash quote = record { blank_after = rw (blank, hash, quote) refl; word_after = rw (blank, hash) refl }
 
 front_of : (front : List ℕ) (found : Option (List ℕ)) (text : List ℕ) → option_map (λ (t : List ℕ). front ++ t) found ≡ Some text → (rest : List ℕ) × (found ≡ Some rest) × (text ≡ front ++ rest)
 front_of front None text e = absurd (cc)
@@ -205,10 +205,10 @@ after_squeezed gap byte bytes text blank hash e =
 
 first_same : (byte : ℕ) (bytes rest : List ℕ) → IsPlain byte → AreSame false rest bytes → words_in (byte ∷ rest) ≡ words_in (byte ∷ bytes)
 first_same byte bytes rest is later =
-    rw is.behind_blank
+    rw is.blank_after
     (ap (λ (t : List ℕ). (byte ∷ t) ∷ words_from InWord rest) later.word ∙ ap (λ (ws : List (List ℕ)). (byte ∷ word_from InWord bytes) ∷ ws) later.words)
 
-empty_same : (gap : Bool) (text line : List ℕ) → squeezed gap line ≡ Some text → squeezed gap line ≡ Some no_bytes → words_from (behind gap) line ≡ [] → word_on gap line ≡ [] → AreSame gap text line
+empty_same : (gap : Bool) (text line : List ℕ) → squeezed gap line ≡ Some text → squeezed gap line ≡ Some no_bytes → words_from (reading_of gap) line ≡ [] → word_on gap line ≡ [] → AreSame gap text line
 empty_same gap text line e none words word = let empty : text ≡ [] = cc in record { words = ap (words_from InWord) empty ∙ sym words; word = ap (word_from InWord) empty ∙ sym word }
 
 same_words : (gap : Bool) (line text : List ℕ) → squeezed gap line ≡ Some text → AreSame gap text line
@@ -222,8 +222,8 @@ same_words false (byte ∷ bytes) text e =
         | inr none ↦ let parts = after_squeezed false byte bytes text other none e in
             let later = same_words false bytes parts.1 parts.2 in
             record {
-              words = ap (words_from InWord) parts.3 ∙ rw parts.0.behind_word later.words;
-              word = ap (word_from InWord) parts.3 ∙ rw parts.0.behind_word (ap (λ (t : List ℕ). byte ∷ t) later.word);
+              words = ap (words_from InWord) parts.3 ∙ rw parts.0.word_after later.words;
+              word = ap (word_from InWord) parts.3 ∙ rw parts.0.word_after (ap (λ (t : List ℕ). byte ∷ t) later.word);
             }
       ]
     ]

@@ -23,10 +23,10 @@ split_here byte bytes part rest comma same = record {
   shorter = let size : length bytes ≡ length rest = ap (λ (p : List ℕ × List ℕ). length p.1) same in omega arith;
 }
 
-split_behind : (byte : ℕ) (bytes part rest : List ℕ) (found : Option (List ℕ × List ℕ)) → nat_eq byte 44 ≡ false → with_front byte found ≡ Some (pair part rest) →
+split_after : (byte : ℕ) (bytes part rest : List ℕ) (found : Option (List ℕ × List ℕ)) → nat_eq byte 44 ≡ false → with_front byte found ≡ Some (pair part rest) →
     ((front : List ℕ) → found ≡ Some (pair front rest) → IsSplit bytes front rest) → IsSplit (byte ∷ bytes) part rest
-split_behind byte bytes part rest None other e later = absurd (cc)
-split_behind byte bytes part rest (Some parts) other e later =
+split_after byte bytes part rest None other e later = absurd (cc)
+split_after byte bytes part rest (Some parts) other e later =
     let same : pair (byte ∷ parts.0) parts.1 ≡ pair part rest = some_same (pair (byte ∷ parts.0) parts.1) (pair part rest) e in
     let front : byte ∷ parts.0 ≡ part = ap (λ (p : List ℕ × List ℕ). p.0) same in
     let back : parts.1 ≡ rest = ap (λ (p : List ℕ × List ℕ). p.1) same in
@@ -41,7 +41,7 @@ comma_split [] part rest e = absurd (cc)
 comma_split (byte ∷ bytes) part rest e =
     elim (eqb_tells byte 44) [
       | inl h ↦ split_here byte bytes part rest h.0 (some_same (pair [] bytes) (pair part rest) (rw h.0 at e))
-      | inr h ↦ split_behind byte bytes part rest (parts_at 44 bytes) h.0 (rw h.0 at e) (λ front is. comma_split bytes front rest is)
+      | inr h ↦ split_after byte bytes part rest (parts_at 44 bytes) h.0 (rw h.0 at e) (λ front is. comma_split bytes front rest is)
     ]
 
 no_front : (byte : ℕ) (found : Option (List ℕ × List ℕ)) → with_front byte found ≡ None → found ≡ None

@@ -22,8 +22,8 @@ not_parts : (a : Bool) → not a ≡ true → a ≡ false
 not_parts true h = absurd (both_ways false refl h)
 not_parts false h = refl
 
-told : (byte : ℕ) → is_lower byte ≡ true → IsLowerDigit byte
-told byte h =
+lower_digit : (byte : ℕ) → is_lower byte ≡ true → IsLowerDigit byte
+lower_digit byte h =
     let a = and_parts (is_ascii_hexdigit byte) (nat_eq (to_ascii_lowercase byte) byte && (not (nat_eq byte 34) && not (nat_eq byte 120))) h in
     let b = and_parts (nat_eq (to_ascii_lowercase byte) byte) (not (nat_eq byte 34) && not (nat_eq byte 120)) a.1 in
     let d = and_parts (not (nat_eq byte 34)) (not (nat_eq byte 120)) b.1 in
@@ -36,7 +36,7 @@ told byte h =
 
 among : (digits : List ℕ) (k : ℕ) → list_all is_lower digits ≡ true → k < length digits → IsLowerDigit (get_or digits k 0)
 among [] k all inside = absurd (omega (arith, inside))
-among (byte ∷ digits) zero all inside = told byte (and_parts (is_lower byte) (list_all is_lower digits) all).0
+among (byte ∷ digits) zero all inside = lower_digit byte (and_parts (is_lower byte) (list_all is_lower digits) all).0
 among (byte ∷ digits) (suc k) all inside = among digits k (and_parts (is_lower byte) (list_all is_lower digits) all).1 (omega (arith, inside))
 
 digit_at : (k : ℕ) → k < 16 → IsLowerDigit (get_or lower_digits k 0)

@@ -78,27 +78,27 @@ apt_spelled (call.Jump point (IfRet ret)) = refl
 apt_spelled _ = refl
 
 -- a slot or a label stays too
-slot_stays : (told : Role) (word : List ℕ) → IsLow 58 word → is_apt told (Argument.Number (pos 0)) ≡ true → plain_word told word ≡ word
+slot_stays : (own_role : Role) (word : List ℕ) → IsLow 58 word → is_apt own_role (Argument.Number (pos 0)) ≡ true → plain_word own_role word ≡ word
 slot_stays role.Other word low apt = refl
 slot_stays role.Signal word low apt = low_signal word low
 slot_stays role.Bytes word low apt = absurd (both_ways false refl apt)
 slot_stays role.Set word low apt = absurd (both_ways false refl apt)
 
-label_stays : (told : Role) (word : List ℕ) → is_apt told (Argument.Point 0) ≡ true → plain_word told word ≡ word
+label_stays : (own_role : Role) (word : List ℕ) → is_apt own_role (Argument.Point 0) ≡ true → plain_word own_role word ≡ word
 label_stays role.Other word apt = refl
 label_stays role.Signal word apt = absurd (both_ways false refl apt)
 label_stays role.Bytes word apt = absurd (both_ways false refl apt)
 label_stays role.Set word apt = absurd (both_ways false refl apt)
 
-spelled_stays : (told : Role) (spelling : Spelling) (argument : Argument) → IsSpelled spelling argument → is_apt told argument ≡ true → FitsArgument argument →
-    plain_word told (spelled_word spelling argument) ≡ spelled_word spelling argument
-spelled_stays told Plain argument is apt fits = word_stays told argument apt fits
-spelled_stays told (Slot slot) argument is apt fits =
-    let apt' : is_apt told (Argument.Number (pos 0)) ≡ true = rw is.1 at apt in
-    slot_stays told (36 ∷ decimal slot) (record { byte = 36; bytes = decimal slot; parts = refl; below = omega arith }) apt'
-spelled_stays told (Label name) argument is apt fits =
-    let apt' : is_apt told (Argument.Point 0) ≡ true = rw is.1 at apt in
-    label_stays told (64 ∷ name.bytes.items) apt'
+spelled_stays : (own_role : Role) (spelling : Spelling) (argument : Argument) → IsSpelled spelling argument → is_apt own_role argument ≡ true → FitsArgument argument →
+    plain_word own_role (spelled_word spelling argument) ≡ spelled_word spelling argument
+spelled_stays own_role Plain argument is apt fits = word_stays own_role argument apt fits
+spelled_stays own_role (Slot slot) argument is apt fits =
+    let apt' : is_apt own_role (Argument.Number (pos 0)) ≡ true = rw is.1 at apt in
+    slot_stays own_role (36 ∷ decimal slot) (record { byte = 36; bytes = decimal slot; parts = refl; below = omega arith }) apt'
+spelled_stays own_role (Label name) argument is apt fits =
+    let apt' : is_apt own_role (Argument.Point 0) ≡ true = rw is.1 at apt in
+    label_stays own_role (64 ∷ name.bytes.items) apt'
 
 spelled_bare : (spelling : Spelling) (argument : Argument) → IsSpelled spelling argument → FitsArgument argument → has_bare argument ≡ true → IsBare (spelled_word spelling argument)
 spelled_bare Plain argument is fits holds = bare_argument argument fits holds

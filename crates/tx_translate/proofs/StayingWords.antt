@@ -23,13 +23,13 @@ use Rattle.tx_translate.proofs.StayingSets.{set_stays}
 use Rattle.tx_translate.proofs.Unnamed.{low_signal}
 use Rattle.tx_translate.proofs.Tests.{and_parts}
 
--- whether an argument is what its role may be told by
+-- whether an argument is what its role may be spelled as
 abbrev pub is_apt : Role → Argument → Bool
 is_apt role.Other argument = true
 is_apt role.Bytes (Argument.Bytes bytes) = true
 is_apt role.Signal (Argument.Number number) = true
 is_apt role.Set (Argument.Signals set) = true
-is_apt told argument = false
+is_apt own_role argument = false
 
 abbrev pub are_apt : List ℕ → ℕ → List Argument → Bool
 are_apt name place [] = true
@@ -83,12 +83,12 @@ bare_argument (Argument.Word word) fits holds = bare word holds
 bare_argument (Argument.Bytes bytes) fits holds = bare_hex bytes fits.0 fits.1
 bare_argument (Argument.Signals set) fits holds = bare_list (members (bits_of set)) (members_rise (bits_of set))
 
-pub word_stays : (told : Role) (argument : Argument) → is_apt told argument ≡ true → FitsArgument argument → plain_word told (word_of argument) ≡ word_of argument
+pub word_stays : (own_role : Role) (argument : Argument) → is_apt own_role argument ≡ true → FitsArgument argument → plain_word own_role (word_of argument) ≡ word_of argument
 word_stays role.Other argument apt fits = refl
 word_stays role.Bytes (Argument.Bytes bytes) apt fits = bytes_stay bytes fits.0 fits.1 fits.2
 word_stays role.Signal (Argument.Number number) apt fits = low_signal (word_of (Argument.Number number)) (low_signed number fits)
 word_stays role.Set (Argument.Signals set) apt fits = set_stays set fits
-word_stays told argument apt fits = absurd (both_ways false refl apt)
+word_stays own_role argument apt fits = absurd (both_ways false refl apt)
 
 -- so are all arguments of a call
 bare_all : (arguments : List Argument) → AllFit arguments → list_all has_bare arguments ≡ true → AllBare (map word_of arguments)

@@ -2,10 +2,10 @@
 use Rattle.std.proofs.Common.{ℕ, zero, suc, ◌<◌, List, [], ◌∷◌, ◌++◌, Option, Some, None, arith}
 use Rattle.hex.specs.Hex.{IsBytes}
 
--- what is meant behind some bytes
-abbrev pub behind : List ℕ → Option (List ℕ) → Option (List ℕ)
-behind bytes None = None
-behind bytes (Some later) = Some (bytes ++ later)
+-- what is meant after some bytes
+abbrev pub after_bytes : List ℕ → Option (List ℕ) → Option (List ℕ)
+after_bytes bytes None = None
+after_bytes bytes (Some later) = Some (bytes ++ later)
 
 -- one byte more
 pub bytes_push : (bytes : List ℕ) (byte : ℕ) → IsBytes bytes → byte < 256 → IsBytes (bytes ++ byte ∷ [])

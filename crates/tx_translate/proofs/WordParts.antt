@@ -20,7 +20,7 @@ comment_columns column (byte ∷ bytes) = comment_columns (column + 1) bytes
 next_here : (byte : ℕ) (bytes : List ℕ) → is_blank byte ≡ false → nat_eq byte 35 ≡ false → next_from (byte ∷ bytes) ≡ byte ∷ bytes
 next_here byte bytes other hash = rw (hash, other) refl
 
--- what stands before a line's next word says nothing
+-- what is before a line's next word says nothing
 pub next_words : (line : List ℕ) → words_in line ≡ words_in (next_from line)
 next_words [] = refl
 next_words (byte ∷ bytes) =
@@ -29,12 +29,12 @@ next_words (byte ∷ bytes) =
       | inr h ↦ elim (two_ways (is_blank byte)) [ inl blank ↦ rw (blank, h.0) (next_words bytes) | inr other ↦ ap words_in (sym (next_here byte bytes other h.0)) ]
     ]
 
--- a line's next word stands behind so many bytes
-pub record IsBehind (line : List ℕ) (column count : ℕ) : Type 0 where
+-- a line's next word comes after so many bytes
+pub record IsAfter (line : List ℕ) (column count : ℕ) : Type 0 where
   pub whole : count + length (next_from line) ≡ length line
   pub columns : columns_from column Between line ≡ columns_from (column + count) Between (next_from line)
 
--- and behind some bytes, which there are where it is none
+-- and after some bytes, which there are where it is none
 pub next_place : (line : List ℕ) → 0 < length (next_from line) → (gap : List ℕ) × (line ≡ gap ++ next_from line)
 next_place [] some = ([], refl)
 next_place (byte ∷ bytes) some =
@@ -49,13 +49,13 @@ next_place (byte ∷ bytes) some =
       ]
     ]
 
-behind_more : (byte : ℕ) (bytes : List ℕ) (column count : ℕ) → is_blank byte ≡ true → nat_eq byte 35 ≡ false → IsBehind bytes (column + 1) count → IsBehind (byte ∷ bytes) column (count + 1)
-behind_more byte bytes column count blank other behind = record {
-  whole = rw (other, blank) (omega (arith, behind.whole));
-  columns = let more : column + 1 + count ≡ column + (count + 1) = omega arith in rw (← more) (rw (blank, other) behind.columns);
+after_more : (byte : ℕ) (bytes : List ℕ) (column count : ℕ) → is_blank byte ≡ true → nat_eq byte 35 ≡ false → IsAfter bytes (column + 1) count → IsAfter (byte ∷ bytes) column (count + 1)
+after_more byte bytes column count blank other following = record {
+  whole = rw (other, blank) (omega (arith, following.whole));
+  columns = let more : column + 1 + count ≡ column + (count + 1) = omega arith in rw (← more) (rw (blank, other) following.columns);
 }
 
-pub next_columns : (line : List ℕ) (column : ℕ) → (count : ℕ) × IsBehind line column count
+pub next_columns : (line : List ℕ) (column : ℕ) → (count : ℕ) × IsAfter line column count
 next_columns [] column = (0, record { whole = refl; columns = refl })
 next_columns (byte ∷ bytes) column =
     elim (eqb_tells byte 35) [
@@ -67,7 +67,7 @@ next_columns (byte ∷ bytes) column =
         },
       )
       | inr h ↦ elim (two_ways (is_blank byte)) [
-        | inl blank ↦ let more = next_columns bytes (column + 1) in (more.0 + 1, behind_more byte bytes column more.0 blank h.0 more.1)
+        | inl blank ↦ let more = next_columns bytes (column + 1) in (more.0 + 1, after_more byte bytes column more.0 blank h.0 more.1)
         | inr other ↦ let here = next_here byte bytes other h.0 in
             let zero : column ≡ column + 0 = omega arith in (
               0,
@@ -101,7 +101,7 @@ next_begins (byte ∷ bytes) some =
       ]
     ]
 
--- behind a word reading goes on as between words
+-- after a word reading goes on as between words
 leaves_between : (reading : Reading) (byte : ℕ) → is_inside reading ≡ true → is_inside (reading_after reading byte) ≡ false → reading_after Between byte ≡ reading_after reading byte
 leaves_between Between byte inside leaves = absurd (both_ways false refl inside)
 leaves_between InComment byte inside leaves = absurd (both_ways false refl inside)
@@ -123,7 +123,7 @@ leaves_between InWord byte inside leaves =
       ]
     ]
 
--- the words behind a word
+-- the words after a word
 pub rest_words : (reading : Reading) (bytes : List ℕ) → is_inside reading ≡ true → words_from reading bytes ≡ words_in (rest_from reading bytes)
 rest_words reading [] inside = refl
 rest_words reading (byte ∷ bytes) inside =
@@ -201,8 +201,8 @@ none_words line left next none = next_words line ∙ ap words_in (sym next ∙ n
 
 pub none_columns : (line left : List ℕ) (first : ℕ) → left ≡ next_from line → length left ≡ 0 → columns_from first Between line ≡ []
 none_columns line left first next none =
-    let behind = next_columns line first in
-    behind.1.columns ∙ ap (columns_from (first + behind.0) Between) (sym next ∙ none_left left none)
+    let following = next_columns line first in
+    following.1.columns ∙ ap (columns_from (first + following.0) Between) (sym next ∙ none_left left none)
 
 pub rest_short : (left rest : List ℕ) → rest ≡ rest_from Between left → length rest ≤ length left
 rest_short left rest is = omega (arith, ap length is, ap length (word_rest Between left), length-append (word_from Between left) (rest_from Between left))
@@ -222,23 +222,23 @@ first_some line left rest next is some =
 pub first_inside : (line left rest : List ℕ) → left ≡ next_from line → rest ≡ rest_from Between left →
     length (take (length left - length rest) left) + length rest ≤ length line
 first_inside line left rest next is =
-    let behind = next_columns line 0 in
-    omega (arith, ap length next, behind.1.whole, length-take (length left - length rest) left, rest_short left rest is)
+    let following = next_columns line 0 in
+    omega (arith, ap length next, following.1.whole, length-take (length left - length rest) left, rest_short left rest is)
 
 pub first_columns : (line left rest : List ℕ) (first : ℕ) → left ≡ next_from line → rest ≡ rest_from Between left → 0 < length left →
     columns_from first Between line
     ≡ (first + (length line - length rest - length (take (length left - length rest) left))) ∷ columns_from (first + (length line - length rest)) Between rest
 first_columns line left rest first next is some =
     let here = found line left rest next is some in
-    let behind = next_columns line first in
+    let following = next_columns line first in
     let size : length left ≡ length here.word + length rest = ap length here.whole ∙ length-append here.word rest in
-    let at : first + behind.0 ≡ first + (length line - length rest - length (take (length left - length rest) left)) =
-    omega (arith, ap length next, behind.1.whole, size, ap length here.taken) in
-    let after : first + behind.0 + length here.word ≡ first + (length line - length rest) = omega (arith, ap length next, behind.1.whole, size) in
-    behind.1.columns
-    ∙ ap (columns_from (first + behind.0) Between) (sym next)
-    ∙ here.columns (first + behind.0)
-    ∙ ap (λ (n : ℕ). n ∷ columns_from (first + behind.0 + length here.word) Between rest) at
+    let at : first + following.0 ≡ first + (length line - length rest - length (take (length left - length rest) left)) =
+    omega (arith, ap length next, following.1.whole, size, ap length here.taken) in
+    let after : first + following.0 + length here.word ≡ first + (length line - length rest) = omega (arith, ap length next, following.1.whole, size) in
+    following.1.columns
+    ∙ ap (columns_from (first + following.0) Between) (sym next)
+    ∙ here.columns (first + following.0)
+    ∙ ap (λ (n : ℕ). n ∷ columns_from (first + following.0 + length here.word) Between rest) at
     ∙ ap (λ (n : ℕ). (first + (length line - length rest - length (take (length left - length rest) left))) ∷ columns_from n Between rest) after
 
 pub first_place : (line left rest : List ℕ) → left ≡ next_from line → rest ≡ rest_from Between left → 0 < length left →
@@ -248,7 +248,7 @@ first_place line left rest next is some =
     let place = next_place line (omega (arith, ap length next, some)) in
     (place.0, place.1 ∙ ap (λ (t : List ℕ). place.0 ++ t) (sym next ∙ first.whole ∙ ap (λ (w : List ℕ). w ++ rest) (sym first.taken)))
 
--- a word that stands in a line, by its place
+-- a word in a line, by its place
 pub word_at : (line before left gap word rest : List ℕ) → line ≡ before ++ left → left ≡ gap ++ (word ++ rest) →
     take (length word) (drop (length line - length rest - length word) line) ≡ word
 word_at line before left gap word rest whole parts =
@@ -265,7 +265,7 @@ rest_at line before left gap word rest whole parts =
     ∙ ap (λ (t : List ℕ). before ++ t) (parts ∙ sym (append_assoc gap word rest))
     ∙ sym (append_assoc before (gap ++ word) rest)
 
--- the first word of a line stands where what is left begins
+-- the first word of a line is where what is left begins
 pub first_found : (line word : List ℕ) (others : List (List ℕ)) → words_in line ≡ word ∷ others → (rest : List ℕ) × (next_from line ≡ word ++ rest)
 first_found line word others are =
     elim (cases_lt 0 (length (next_from line))) [

@@ -13,4 +13,4 @@ pub record IsBefore {A : Type 0} (spelling : A → List ℕ) (AreGood : List A �
 
 -- the text begins with the header of a schedule and these steps, and that is left
 abbrev pub BeginsWith : Header → List Step → List ℕ → List ℕ → Type 0
-BeginsWith header steps left text = (behind : List ℕ) × SpellsHeader kinds.Schedule text header behind × IsBefore step_text (AreSteps header.version) steps left behind
+BeginsWith header steps left text = (following : List ℕ) × SpellsHeader kinds.Schedule text header following × IsBefore step_text (AreSteps header.version) steps left following

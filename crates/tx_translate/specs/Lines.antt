@@ -24,7 +24,7 @@ abbrev pub plain_call : List (List ℕ) → List (List ℕ)
 plain_call [] = []
 plain_call (name ∷ arguments) = name ∷ plain_arguments name 0 arguments
 
--- what follows the first word of a header: version 2 stands in place of the version
+-- what follows the first word of a header: version 2 in place of the version
 abbrev pub plain_version : List (List ℕ) → List (List ℕ)
 plain_version [] = []
 plain_version (version ∷ words) = codes "2" ∷ words
@@ -35,7 +35,7 @@ plain_others Heading first others = plain_version others
 plain_others (Within Program) first others = plain_arguments first 0 others
 plain_others (Within Schedule) first others = plain_call others
 
--- the line of a word and the words behind it
+-- the line of a word and the words after it
 abbrev pub line_of_words : Stage → List ℕ → List (List ℕ) → List ℕ
 line_of_words stage first others = first ++ spaced (plain_others stage first others)
 
@@ -59,7 +59,7 @@ kind_of [] = Schedule
 kind_of (version ∷ []) = Schedule
 kind_of (version ∷ kind ∷ words) = if bytes_eq kind (codes "program") then Program else Schedule
 
--- where a text stands after a line of those words: the first line with a word is its header
+-- the stage of a text after a line of those words: the first line with a word is its header
 abbrev pub stage_after : Stage → List (List ℕ) → Stage
 stage_after Heading [] = Heading
 stage_after Heading (first ∷ others) = Within (kind_of others)

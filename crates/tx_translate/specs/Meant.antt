@@ -1,4 +1,4 @@
--- What a text of any version means, and how its faults are told.
+-- What a text of any version means, and how its faults are reported.
 use Rattle.std.specs.Prelude.{◌≡◌, ℕ, List, if◌then◌else◌}
 use Rattle.tx_lines.specs.declared.faults.Fault.{Fault}
 use Rattle.tx_lines.specs.declared.faults.Fault.TheVariants.{NotALine, NoLabel, TooLong, Reader, Writer, NoMemory}
@@ -23,7 +23,7 @@ fault_by lines Reader = Reader
 fault_by lines Writer = Writer
 fault_by lines NoMemory = NoMemory
 
--- the fault is one of the text that a text means, told at the text's own line
+-- the fault is one of the text that a text means, reported at the text's own line
 pub record IsOwnFault (IsFault : List ℕ → Fault → Type 0) (text : List ℕ) (fault : Fault) : Type 0 where
   pub meant : Fault
   pub is_fault : IsFault (meant_of text) meant

@@ -33,7 +33,7 @@ line_by (Some stage) line = bare (plain_line stage line)
 abbrev pub line_of : OwnLine → List ℕ
 line_of line = line_by line.stage line.bytes.now
 
--- the line is the first that is left, and that is left behind it
+-- the line is the first that is left, and that is left after it
 pub record IsNextLine (left : List ℕ) (line : OwnLine) (rest : List ℕ) : Type 0 where
   pub bytes : line_of line ≡ first_line left
   pub ended : line.is_ended ≡ is_some (after_line left)
@@ -52,7 +52,7 @@ pub record OwnsFrom (text : List ℕ) (number : ℕ) (lines : MeantLines) : Type
   pub third : is_third text ≡ is_some lines.stage
   pub own : AreOwnFrom lines.stage text number lines
 
--- the line is the own line of that meant one, and those behind it are of the meant ones behind that
+-- the line is the own line of that meant one, and those after it are of the meant ones after that
 pub record OwnsNext (text : List ℕ) (number : ℕ) (line : OwnLine) (rest : MeantLines) : Type 0 where
   pub own : number < 2 ^ 64 → line.number ≡ own_line text number
   pub behind : OwnsFrom text (number + 1) rest

@@ -37,7 +37,7 @@ named_by (number ∷ []) = None
 named_by (number ∷ name ∷ []) = named_as number name
 named_by (number ∷ name ∷ more ∷ words) = None
 
--- the process that a line gives a name to, and the name, by its first word and those behind it
+-- the process that a line gives a name to, and the name, by its first word and those after it
 abbrev pub naming_of : List ℕ → List (List ℕ) → Option (ℕ × List ℕ)
 naming_of first others = if bytes_eq first (codes "name") then named_by others else None
 
@@ -52,7 +52,7 @@ naming_in line = naming_by (words_in line)
 abbrev pub named : Naming → ℕ × List ℕ
 named naming = (naming.process.0, naming.name.now)
 
--- whether a line gives a name to a process where a text stands so: behind the header of a schedule
+-- whether a line gives a name to a process at that stage of a text: after the header of a schedule
 abbrev pub names_process : Stage → List ℕ → List (List ℕ) → Bool
 names_process Heading first others = false
 names_process (Within Program) first others = false

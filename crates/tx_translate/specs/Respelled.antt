@@ -30,9 +30,9 @@ abbrev pub IsNamed : List ℕ → ℕ → Type 0
 IsNamed word signo = (named_signal word ≡ Some signo) × (signo < 64)
 
 -- the second step is the first with what the word means in place of its last argument
-abbrev pub IsRetold : List ℕ → Step → Step → Type 0
-IsRetold word (steps.Call pid (call.Store address old)) step =
+abbrev pub IsRespelled : List ℕ → Step → Step → Type 0
+IsRespelled word (steps.Call pid (call.Store address old)) step =
     (bytes : ArrayVec ℕ) × (step ≡ steps.Call pid (call.Store address bytes)) × (plain_bytes word ≡ encode_lower bytes.items) × FitsArgument (Argument.Bytes bytes.items)
-IsRetold word (steps.Call pid (call.Kill target old)) step = (signo : ℕ) × (step ≡ steps.Call pid (call.Kill target (pos signo))) × IsNamed word signo
-IsRetold word (steps.Deliver pid old) step = (signo : Signo) × (step ≡ steps.Deliver pid signo) × IsNamed word signo.0
-IsRetold word before step = ⊥
+IsRespelled word (steps.Call pid (call.Kill target old)) step = (signo : ℕ) × (step ≡ steps.Call pid (call.Kill target (pos signo))) × IsNamed word signo
+IsRespelled word (steps.Deliver pid old) step = (signo : Signo) × (step ≡ steps.Deliver pid signo) × IsNamed word signo.0
+IsRespelled word before step = ⊥

@@ -1,4 +1,4 @@
--- Which argument of which call may be told otherwise than version 2 tells it: one table.
+-- Which argument of which call may be spelled otherwise than in version 2: one table.
 use Rattle.std.specs.Prelude.{ℕ, List, nat_eq, codes, if◌then◌else◌}
 use Rattle.std.specs.Str.{bytes_eq}
 use Rattle.tx_translate.specs.ByteWords.{plain_bytes}

@@ -21,7 +21,7 @@ abbrev pub set_with_all : Option ℕ → List (List ℕ) → Option ℕ
 set_with_all set [] = set
 set_with_all set (part ∷ parts) = set_with_all (set_with set (signal_of part)) parts
 
--- the set of the signals that are the parts of a word; nothing where a part is none, or one stands twice
+-- the set of the signals that are the parts of a word; nothing where a part is none, or one occurs twice
 abbrev pub set_in : List ℕ → Option ℕ
 set_in word = set_with_all (Some 0) (comma_parts word)
 

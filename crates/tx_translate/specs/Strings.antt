@@ -1,7 +1,7 @@
 -- The bytes that a string means.
 use Rattle.std.specs.Prelude.{ℕ, Bool, true, false, ◌&&◌, List, [], ◌∷◌, length, nat_eq, nat_le, Option, Some, None, if◌then◌else◌}
 
--- the byte that an escape stands for, by the byte after its `\`; nothing where there is no such escape
+-- the byte that an escape means, by the byte after its `\`; nothing where there is no such escape
 abbrev pub escape_of : ℕ → Option ℕ
 escape_of byte =
     if nat_eq byte 110 then Some 10

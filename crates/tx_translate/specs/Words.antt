@@ -1,5 +1,5 @@
--- The words of a line that a person wrote. Spaces and tabs part them, `#` outside of a string begins a comment, and a word that begins with `"` goes on
--- at least to the next `"` that no `\` escapes.
+-- The words of a line that a person wrote. Spaces and tabs separate them, `#` outside of a string begins a comment, and a word that begins with
+-- `"` goes on at least to the next `"` that no `\` escapes.
 use Rattle.std.specs.Prelude.{ℕ, ◌+◌, ◌-◌, Bool, true, false, not, ◌&&◌, ◌||◌, List, [], ◌∷◌, nat_eq, slice_range, if◌then◌else◌}
 use Rattle.tx_translate.specs.declared.reading.Reading.{Reading}
 use Rattle.tx_translate.specs.declared.reading.Reading.TheVariants.{Between, InWord, InString, AfterBackslash, InComment}
@@ -9,7 +9,7 @@ use Rattle.tx_translate.specs.declared.words.Word.{Word}
 abbrev pub is_blank : ℕ → Bool
 is_blank byte = nat_eq byte 32 || nat_eq byte 9
 
--- where reading stands after a byte that follows no word, that follows one of a word, and that stands in a string
+-- the state of reading after a byte that follows no word, after one that follows a byte of a word, and after one in a string
 abbrev pub after_blank : ℕ → Reading
 after_blank byte = if is_blank byte then Between else if nat_eq byte 35 then InComment else if nat_eq byte 34 then InString else InWord
 
@@ -19,7 +19,7 @@ after_word_byte byte = if is_blank byte then Between else if nat_eq byte 35 then
 abbrev pub after_string_byte : ℕ → Reading
 after_string_byte byte = if nat_eq byte 34 then InWord else if nat_eq byte 92 then AfterBackslash else InString
 
--- where reading stands after one byte more
+-- the state of reading after one byte more
 abbrev pub reading_after : Reading → ℕ → Reading
 reading_after Between byte = after_blank byte
 reading_after InWord byte = after_word_byte byte

@@ -22,14 +22,14 @@ pub record Notes : Type 0 where
 abbrev pub no_notes : Notes
 no_notes = record { lines = []; names = [] }
 
--- a name that is given behind those lines, of which the first is the header
-abbrev pub name_behind : List (List ℕ) → ℕ × List ℕ → NameAt
-name_behind lines named = record { position = length lines - 1; process = named.0; name = named.1 }
+-- a name that is given after those lines, of which the first is the header
+abbrev pub name_after : List (List ℕ) → ℕ × List ℕ → NameAt
+name_after lines named = record { position = length lines - 1; process = named.0; name = named.1 }
 
 -- with a line more that has a word: it gives a name, or is kept
 abbrev pub noted_as : Notes → List ℕ → Option (ℕ × List ℕ) → Notes
 noted_as notes line None = record notes { lines = notes.lines ++ line ∷ [] }
-noted_as notes line (Some named) = record notes { names = notes.names ++ name_behind notes.lines named ∷ [] }
+noted_as notes line (Some named) = record notes { names = notes.names ++ name_after notes.lines named ∷ [] }
 
 -- with a line of those words more
 abbrev pub noted_by : Notes → List ℕ → List (List ℕ) → Notes

@@ -52,7 +52,7 @@ fn hex_digit(number: u8) -> u8
     }
 }
 
-/// Appends the digits of a word in lower case, or the word as it is where it is no digits.
+/// Appends the digits of a word in lower case, or the word as it is where it has none.
 fn put_digits(room: &mut Room, word: &[u8]) -> Result<(), Full>
     ensures put { OnOk result
         (room.new.items ≡ room.old.items ++ lower_or word.now (digits_of word.now)) }
@@ -67,7 +67,7 @@ fn put_digits(room: &mut Room, word: &[u8]) -> Result<(), Full>
     }
 }
 
-/// A word without `0x` before it, where it begins so.
+/// A word without its `0x`, where it begins so.
 fn digits_of(word: &[u8]) -> &[u8]
     ensures { result.now ≡ digits_of word.now }
 {

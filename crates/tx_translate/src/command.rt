@@ -9,8 +9,8 @@ use tx_lines::{Fault, Sink, Source, read_whole, write_whole};
 /// Reads a text to its end, and writes the text of the first two versions that it means: itself, where it
 /// is none of version 3.
 ///
-/// `TooLong` at line 0 where the text has more than 1,048,576 bytes, and `Reader` and `NoMemory`: nothing
-/// is written then. `Writer`: a front of what is meant is.
+/// `TooLong` at line 0 where the text has more than 1,048,576 bytes, and `Reader` and `NoMemory`:
+/// nothing is written then. `Writer`: only a front of it is written then.
 pub fn write_plain<S: Source, W: Sink>(
     alloc: Global,
     source: &mut S,

@@ -41,9 +41,9 @@ pub fn header_in(
     ensures { IfOk result (λ found. IfSome found (λ r.
         SpellsHeader kind (meant_of text.now) r.0 (left_of r.1))) }
 {
-    let (line, behind) = MeantLines::of(text).cut();
+    let (line, rest) = MeantLines::of(text).cut();
     match header_of(alloc, kind, line)? {
-        Some(header) => Ok(Some((header, behind))),
+        Some(header) => Ok(Some((header, rest))),
         None => Ok(None),
     }
 }
@@ -80,17 +80,17 @@ fn first_steps<'a>(
     let mut steps = Vec::with_capacity(alloc, LINES.min(lines.bytes_left() / STEP_BYTES))?;
     let mut room = Room::new();
     let mut left = lines;
-    while let Some((line, behind)) = left.split() {
+    while let Some((line, rest)) = left.split() {
         if !add_step(version, line, &mut room, &mut steps)? {
             break;
         }
-        left = behind;
+        left = rest;
     }
     Ok((steps, left))
 }
 
-/// Puts the step of that version that a line means behind those before it. Answers whether the line
-/// means one, and a schedule has room for it; the steps stay as they were where not.
+/// Appends the step of that version that a line means. Returns whether the line means one, and a
+/// schedule has room for it; if not, the steps stay as they were.
 #[inline(always)] // a call of its own costs each line of a schedule 30 instructions
 fn add_step(
     version: Version,

@@ -31,7 +31,7 @@ pub fn before_return(line: &[u8]) -> &[u8]
     }
 }
 
-/// What stands before that end of a line. Nothing where the line does not end so.
+/// The line before that end. Nothing where the line does not end so.
 fn before_end<'a>(end: &[u8], line: &'a [u8]) -> Option<&'a [u8]>
     ensures { MatchOption result ((front : List ℕ) → line.now ≢ front ++ end.now) (λ front.
         line.now ≡ front.now ++ end.now) }

@@ -17,7 +17,7 @@ pub enum Meant<'a> {
 }
 
 impl<'a> Meant<'a> {
-    /// What a text means. The only error is that a growth of memory was refused.
+    /// What a text means. The only error is a refused growth of memory.
     pub fn by(alloc: Global, text: &'a [u8]) -> Result<Meant<'a>, NoMemory>
         ensures { IfOk result (IsMeantBy text.now) }
     {
@@ -37,7 +37,7 @@ impl<'a> Meant<'a> {
         }
     }
 
-    /// The fault of the text that is meant, told at the line of the text itself.
+    /// The fault of the text that is meant, at the line of the text itself.
     pub fn own_fault(&self, fault: Fault) -> Fault
         ensures { result ≡ fault_by (line_of self.now) fault }
     {

@@ -28,10 +28,10 @@ use tx_lines::{LINE_BYTES, TextKind, Version, read_step_into, take_line};
 /// What is left of a text of any version, as the lines of the first two versions that it means.
 #[derive(Clone, Copy)]
 pub struct MeantLines<'a> {
-    /// Where a text of version 3 stands. Nothing in another, whose lines mean themselves.
+    /// The place in a text of version 3. Nothing in another, whose lines mean themselves.
     stage: Option<Stage>,
     left: &'a [u8],
-    /// The number of the own line that is left first. Lines count from 1.
+    /// The number of the first own line that is left. Lines count from 1.
     number: u64,
 }
 
@@ -74,8 +74,8 @@ impl<'a> MeantLines<'a> {
         self.left.len()
     }
 
-    /// The first line, and those behind it. Nothing where none is left.
-    #[inline(always)] // lines that go by memory cost 60 instructions each
+    /// The first line, and those after it. Nothing where none is left.
+    #[inline(always)] // passing lines in memory costs 60 instructions each
     pub fn split(self) -> Option<(OwnLine<'a>, MeantLines<'a>)>
         ensures none { IfNone result (left_of self.entry ≡ []) }
         ensures some { IfSome result (λ r. left_of self.entry ≢ []) }
@@ -93,7 +93,7 @@ impl<'a> MeantLines<'a> {
         }
     }
 
-    /// The first line, and those behind it. An empty line without an end where none is left; its
+    /// The first line, and those after it. An empty line without an end where none is left; its
     /// number is that after the last line.
     #[inline(always)] // as `split`, which calls it
     pub fn cut(self) -> (OwnLine<'a>, MeantLines<'a>)
@@ -128,15 +128,15 @@ impl<'a> MeantLines<'a> {
             number: self.number,
             is_ended: rest.is_some(),
         };
-        let behind = MeantLines {
+        let following = MeantLines {
             stage: None,
             left: rest.unwrap_or(b""),
             number: self.number.saturating_add(1),
         };
-        (line, behind)
+        (line, following)
     }
 
-    /// The same in a text of version 3 that stands there.
+    /// The same in a text of version 3 at that stage.
     #[inline(always)] // as `split`
     fn cut_third(self, stage: Stage) -> (OwnLine<'a>, MeantLines<'a>)
         requires { self.stage ≡ Some stage }
@@ -158,12 +158,12 @@ impl<'a> MeantLines<'a> {
                     number,
                     is_ended: true,
                 };
-                let behind = MeantLines {
+                let following = MeantLines {
                     stage: Some(stage_after(stage, bytes)),
                     left: rest,
                     number: number.saturating_add(1),
                 };
-                return (line, behind);
+                return (line, following);
             }
             number = number.saturating_add(1);
             left = rest;
@@ -174,16 +174,16 @@ impl<'a> MeantLines<'a> {
             number,
             is_ended: false,
         };
-        let behind = MeantLines {
+        let following = MeantLines {
             stage: Some(stage),
             left: b"",
             number,
         };
-        (line, behind)
+        (line, following)
     }
 }
 
-/// Whether a line means one where a text of version 3 stands so.
+/// Whether a line means one at that stage of a text of version 3.
 fn means_one(stage: Stage, line: &[u8]) -> bool
     ensures { result ≡ is_some (plain_line stage line.now) }
 {
@@ -196,8 +196,8 @@ fn means_one(stage: Stage, line: &[u8]) -> bool
     *byte != b'n' || is_unnamed(stage, line)
 }
 
-/// Whether a line has a word, and gives no name to a process where a text of version 3 stands so.
-#[inline(never)] // few lines ask it
+/// Whether a line has a word, and gives no name to a process at that stage of a text of version 3.
+#[inline(never)] // few lines need it
 fn is_unnamed(stage: Stage, line: &[u8]) -> bool
     ensures { result ≡ is_some (plain_of_words stage (words_in line.now)) }
 {
@@ -208,7 +208,7 @@ fn is_unnamed(stage: Stage, line: &[u8]) -> bool
 }
 
 impl<'a> OwnLine<'a> {
-    /// The line that it means, which is put into the room where it is spelled otherwise.
+    /// The line that it means, put into the room where it is spelled otherwise.
     pub fn meaning(self, room: &'a mut Room) -> &'a [u8]
         ensures { result.now ≡ line_of self.entry }
     {
@@ -218,25 +218,25 @@ impl<'a> OwnLine<'a> {
         line_meaning(room, stage, self.bytes).unwrap_or(b"")
     }
 
-    /// Reads the step that the line means, and puts it where it is to stand; at once where the line
-    /// spells it itself. Answers whether it means one.
+    /// Reads the step that the line means, at once where the line spells it itself. Returns
+    /// whether it means one.
     #[inline(always)] // a call of its own costs each line of a schedule 30 instructions
     pub fn read_step_into(self, version: Version, room: &mut Room, step: &mut Step) -> bool
         ensures found { IfSome (then_some result step.new) (λ s. line_of self.entry ≡ step_text s) }
         ensures fits { IfSome (then_some result step.new) (FitsStepOf version) }
     {
         if self.may_be_step()
-            && !is_told_otherwise(self.bytes)
+            && !is_spelled_otherwise(self.bytes)
             && read_step_into(version, self.bytes, step)
         {
             return true;
         }
-        self.read_told_otherwise(version, room, step)
+        self.read_spelled_otherwise(version, room, step)
     }
 
     /// The same where the line does not spell the step itself.
     #[inline(never)] // inlined, a line that does pays for it
-    fn read_told_otherwise(self, version: Version, room: &mut Room, step: &mut Step) -> bool
+    fn read_spelled_otherwise(self, version: Version, room: &mut Room, step: &mut Step) -> bool
         ensures found { IfSome (then_some result step.new) (λ s. line_of self.entry ≡ step_text s) }
         ensures fits { IfSome (then_some result step.new) (FitsStepOf version) }
     {
@@ -273,8 +273,8 @@ impl<'a> OwnLine<'a> {
         begins_so(b"label ", meaning).then_some(meaning)
     }
 
-    /// Whether the line that it means is the one before commands. One that begins with another word is
-    /// not translated.
+    /// Whether the line that it means is the one before commands. A line that begins with another
+    /// word is not translated.
     #[inline(always)] // a call of its own costs each line that is looked at 50 instructions
     pub fn is_debug(self, room: &mut Room) -> bool
         ensures { IsTrue result ↔ (line_of self.entry ≡ debug_line) }
@@ -295,9 +295,9 @@ impl<'a> OwnLine<'a> {
     }
 }
 
-/// Whether a line is seen to be none of version 2: it has two spaces behind its first word, or ends with
-/// a string or the name of a signal.
-fn is_told_otherwise(line: &[u8]) -> bool {
+/// Whether a line is seen not to be of version 2: it has two spaces after its first word, or ends
+/// with a string or the name of a signal.
+fn is_spelled_otherwise(line: &[u8]) -> bool {
     match line {
         [_, b' ', b' ', ..] => true,
         [.., before, last] => *last == b'"' || before.is_ascii_uppercase(),
@@ -310,11 +310,11 @@ fn begins_so(front: &[u8], line: &[u8]) -> bool
     ensures found { IsTrue result → (rest : List ℕ) × (line.now ≡ front.now ++ rest) }
     ensures only { (rest : List ℕ) → line.now ≡ front.now ++ rest → IsTrue result }
 {
-    behind_front(front, line).is_some()
+    after_front(front, line).is_some()
 }
 
 /// What follows that front of a line. Nothing where the line does not begin so.
-fn behind_front<'a>(front: &[u8], line: &'a [u8]) -> Option<&'a [u8]>
+fn after_front<'a>(front: &[u8], line: &'a [u8]) -> Option<&'a [u8]>
     ensures { MatchOption result ((rest : List ℕ) → line.now ≢ front.now ++ rest) (λ rest.
         line.now ≡ front.now ++ rest.now) }
 {

@@ -22,8 +22,8 @@ pub struct Naming<'a> {
     pub name: &'a [u8],
 }
 
-/// The name that a line of version 3 gives to a process behind the header of a schedule: `name`, the
-/// number of the process, and its name. Nothing where it is another line.
+/// The name that a line of version 3 gives to a process after the header of a schedule: `name`,
+/// the number of the process, and its name. Nothing where it is another line.
 pub fn naming_in(line: &[u8]) -> Option<Naming<'_>>
     ensures { option_map named result ≡ naming_in line.now }
 {
@@ -31,9 +31,9 @@ pub fn naming_in(line: &[u8]) -> Option<Naming<'_>>
     naming_of(first, others)
 }
 
-/// Whether a line gives a name to a process where a text stands so, by its first word and what follows
-/// that. Such a line means none.
-#[inline(always)] // each line of a text asks it
+/// Whether a line gives a name to a process at that stage of a text, by its first word and what
+/// follows that. Such a line means none.
+#[inline(always)] // each line of a text needs it
 pub fn names_process(stage: Stage, first: &[u8], others: &[u8]) -> bool
     ensures { result ≡ names_process stage first.now (words_in others.now) }
 {

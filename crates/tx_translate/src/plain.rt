@@ -30,9 +30,9 @@ impl Plain {
         self.text.as_slice()
     }
 
-    /// The number of the person's line that a line of the text of version 2 comes from. Lines count
-    /// from 1. After the last line it is the number after the person's last line, and 0, which
-    /// stands for the text as a whole, stays 0.
+    /// The number of the person's line that a line of the text of version 2 comes from. Lines
+    /// count from 1. After the last line it is the number after the person's last line; 0, the
+    /// text as a whole, stays 0.
     pub fn own_line(&self, line: u64) -> u64
         ensures { result ≡ own_line_of self.now line }
     {
@@ -45,8 +45,8 @@ impl Plain {
             .unwrap_or(self.after)
     }
 
-    /// Appends what the person's next line means where a text stands so, by way of the room. After an
-    /// error the text may have a part of it.
+    /// Appends what the person's next line means at that stage of a text, by way of the room.
+    /// After an error the text may have a part of it.
     fn put_line(&mut self, room: &mut Room, stage: Stage, line: &[u8]) -> Result<(), AllocError>
         requires { self.old.after < 2 ^ 64 - 1 }
         ensures text { OnOk result
@@ -81,10 +81,10 @@ pub fn is_third(text: &[u8]) -> bool
 }
 
 /// The text of version 2 that a text of version 3 means; nothing where the text is of another
-/// version. Each line of the text is that of one line of the person's, and those without a word
-/// are left out. What is wrong stays as it is, a line of more than 512 bytes as a whole: whoever
-/// reads the text of version 2 finds its first fault in the line that comes from the first line at
-/// fault. The only error is that a growth of memory was refused.
+/// version. Each line of the text is that of one line of the person's; lines without a word are
+/// left out. What is wrong stays as it is, a line of more than 512 bytes as a whole: a reader of
+/// the text of version 2 finds its first fault in the line of the first line at fault. The only
+/// error is a refused growth of memory.
 pub fn plain_text(alloc: Global, text: &[u8]) -> Result<Option<Plain>, NoMemory>
     ensures { IfOk result (λ r. MatchOption r (is_third text.now ≡ false) (λ plain.
         (is_third text.now ≡ true) × IsPlainOf text.now plain)) }

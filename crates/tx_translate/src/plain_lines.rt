@@ -15,10 +15,9 @@ use crate::stage::Stage;
 use crate::words::split_word;
 use tx_lines::{LINE_BYTES, TextKind};
 
-/// The line of version 2 that a line means where a text stands so; nothing where it has no word, or
-/// gives a name to a process. What is wrong stays as it is, a line that is too long, or that would
-/// become so, as a whole. A line that is spelled otherwise is put into the room, in place of what that
-/// had.
+/// The line of version 2 that a line means at that stage of a text; nothing where it has no word,
+/// or gives a name to a process. What is wrong stays as it is; so does a line that is too long, or
+/// would become so, as a whole. A line that is spelled otherwise replaces what was in the room.
 pub fn line_meaning<'a>(room: &'a mut Room, stage: Stage, line: &'a [u8]) -> Option<&'a [u8]>
     ensures { option_map (λ meaning. meaning.now) result ≡ plain_line stage line.now }
 {
@@ -36,8 +35,8 @@ pub fn line_meaning<'a>(room: &'a mut Room, stage: Stage, line: &'a [u8]) -> Opt
     Some(room.as_slice())
 }
 
-/// Where a text stands after a line.
-#[inline(always)] // behind its header a text stays where it stands
+/// The stage of a text after a line.
+#[inline(always)] // after its header a text stays at its stage
 pub fn stage_after(stage: Stage, line: &[u8]) -> Stage
     ensures { result ≡ stage_after stage (words_in line.now) }
 {
@@ -47,7 +46,7 @@ pub fn stage_after(stage: Stage, line: &[u8]) -> Stage
     }
 }
 
-/// Where a text stands after a line before which none has a word.
+/// The stage of a text after a line before which none has a word.
 fn stage_after_heading(line: &[u8]) -> Stage
     ensures { result ≡ stage_after Heading (words_in line.now) }
 {
@@ -146,7 +145,7 @@ fn put_call(room: &mut Room, call: &[u8]) -> Result<(), Full>
 }
 
 /// Appends the arguments of the call of that name.
-#[inline(always)] // it has two callers, and each line of a text asks one of them
+#[inline(always)] // it has two callers, and each line of a text needs one of them
 fn put_arguments(room: &mut Room, name: &[u8], arguments: &[u8]) -> Result<(), Full>
     ensures put { OnOk result (room.new.items
         ≡ room.old.items ++ spaced (plain_arguments name.now 0 (words_in arguments.now))) }
@@ -156,7 +155,7 @@ fn put_arguments(room: &mut Room, name: &[u8], arguments: &[u8]) -> Result<(), F
     let mut place = 0;
     let mut left = arguments;
     while let Some((word, rest)) = split_word(left) {
-        put_told(room, role_of(name, place), word)?;
+        put_next_argument(room, role_of(name, place), word)?;
         place += 1;
         left = rest;
     }
@@ -164,7 +163,7 @@ fn put_arguments(room: &mut Room, name: &[u8], arguments: &[u8]) -> Result<(), F
 }
 
 /// Appends an argument as version 2 spells it, by its role, with a space before it.
-fn put_told(room: &mut Room, role: Role, word: &[u8]) -> Result<(), Full>
+fn put_next_argument(room: &mut Room, role: Role, word: &[u8]) -> Result<(), Full>
     ensures put { OnOk result (room.new.items ≡ room.old.items ++ 32 ∷ plain_word role word.now) }
     ensures full { OnErr result (IsOver (room.old.items ++ 32 ∷ plain_word role word.now)) }
 {

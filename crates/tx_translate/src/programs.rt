@@ -84,17 +84,17 @@ fn lines_in(
     let mut labels = IndexMap::new(alloc);
     let mut room = Room::new();
     let mut left = left;
-    while let Some((line, behind)) = left.split() {
+    while let Some((line, rest)) = left.split() {
         if !add_line(version, line, &mut room, &mut lines, &mut labels)? {
             return Ok(None);
         }
-        left = behind;
+        left = rest;
     }
     Ok(Some((lines, labels)))
 }
 
-/// Puts the line of a program of that version that a line means behind those before it, and a label
-/// among the labels, too. Answers whether the line means one, and a program has room for it.
+/// Appends the line of a program of that version that a line means; a label also to the labels.
+/// Returns whether the line means one, and a program has room for it.
 fn add_line(
     version: Version,
     line: OwnLine<'_>,

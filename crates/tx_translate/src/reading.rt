@@ -1,20 +1,20 @@
-//! Where the reading of a line stands.
+//! The states of the reading of a line.
 ghost use Rattle.std.specs.Prelude.{◌≡◌};
 ghost use Rattle.tx_translate.specs.Words.{is_blank};
 
-/// Where the reading of a line stands, after a byte of it or before its first. What a word is is said by
-/// these; the loops of `words.rt` each stay in one.
+/// The state of reading a line, after a byte of it or before its first. These states define what a
+/// word is; the loops of `words.rt` each stay in one.
 #[derive(Clone, Copy)]
 pub enum Reading {
-    /// Behind a space or a tab, or before all.
+    /// After a space or a tab, or before all.
     Between,
     /// In a word, and in no string.
     InWord,
     /// In a string.
     InString,
-    /// In a string, behind a `\` that escapes the next byte.
+    /// In a string, after a `\` that escapes the next byte.
     AfterBackslash,
-    /// Behind `#`.
+    /// After `#`.
     InComment,
 }
 

@@ -10,7 +10,7 @@ ghost use Rattle.tx_lines.specs.Schedule.{FitsStepOf};
 ghost use Rattle.tx_lines.specs.declared.read.header.TextKind.TheVariants.{Schedule};
 ghost use Rattle.tx_translate.specs.ByteWords.{plain_bytes};
 ghost use Rattle.tx_translate.specs.Lines.{plain_line};
-ghost use Rattle.tx_translate.specs.Respelled.{spaced_byte, squeezed, IsRetold};
+ghost use Rattle.tx_translate.specs.Respelled.{spaced_byte, squeezed, IsRespelled};
 ghost use Rattle.tx_translate.specs.declared.stage.Stage.TheVariants.{Within};
 
 use crate::reading::is_blank;
@@ -22,15 +22,15 @@ use arrayvec::ArrayVec;
 use tx_base::{Call, Signo, Step};
 use tx_lines::{LINE_BYTES, Version, read_step_into};
 
-/// How many bytes may stand before a last word: the most that a line of version 2 has, without those of
+/// How many bytes may precede a last word: the most that a line of version 2 has, without those of
 /// the longest store.
 const FRONT_BYTES: usize = LINE_BYTES - 128;
 
-/// A last word that version 2 can spell in place of each that is read here.
+/// A last word of version 2 in place of each that is read here.
 const LAST: &[u8] = b"10";
 
-/// Reads the step that a line of a schedule means, and puts it where it is to stand, where the line is
-/// spelled so. Answers whether it is.
+/// Reads the step that a line of a schedule means, where the line is spelled so. Returns whether
+/// it is.
 pub fn read_respelled(version: Version, line: &[u8], room: &mut Room, step: &mut Step) -> bool
     ensures found { IfSome (then_some result step.new) (λ s.
         plain_line (Within Schedule) line.now ≡ Some (step_text s)) }
@@ -42,12 +42,12 @@ pub fn read_respelled(version: Version, line: &[u8], room: &mut Room, step: &mut
     match line {
         [_, b' ', b' ', ..] => read_squeezed(version, line, room, step),
         [.., b'"'] => match line.iter().position(|byte| *byte == b'"') {
-            Some(at) => read_told_last(version, line, at, room, step),
+            Some(at) => read_last_word(version, line, at, room, step),
             None => false,
         },
         [.., before, _] if before.is_ascii_uppercase() => {
             match line.iter().rposition(|byte| *byte == b' ') {
-                Some(at) => read_told_last(version, line, at + 1, room, step),
+                Some(at) => read_last_word(version, line, at + 1, room, step),
                 None => false,
             }
         }
@@ -56,7 +56,7 @@ pub fn read_respelled(version: Version, line: &[u8], room: &mut Room, step: &mut
 }
 
 /// The same where the word that begins at that byte is the last, and a string or the name of a signal.
-fn read_told_last(
+fn read_last_word(
     version: Version,
     line: &[u8],
     at: usize,
@@ -79,13 +79,14 @@ fn read_told_last(
     read_step_into(version, room.as_slice(), step) && put_last(step, word)
 }
 
-/// Puts what a word means in place of the last argument of a step. Answers whether it means one there.
+/// Puts what a word means in place of the last argument of a step. Returns whether it means one
+/// there.
 fn put_last(step: &mut Step, word: &[u8]) -> bool
-    ensures { IfSome (then_some result step.new) (IsRetold word.now step.old) }
+    ensures { IfSome (then_some result step.new) (IsRespelled word.now step.old) }
 {
     match with_last(step, word) {
-        Some(told) => {
-            *step = told;
+        Some(changed) => {
+            *step = changed;
             true
         }
         None => false,
@@ -112,7 +113,7 @@ fn before_space(front: &[u8]) -> Option<&[u8]>
     front.strip_suffix(b" ")
 }
 
-/// Puts the front of a line in place of what the room had, and a last word behind it.
+/// Puts the front of a line in place of what the room had, and a last word after it.
 fn put_front(room: &mut Room, front: &[u8]) -> Result<(), Full>
     ensures { OnOk result (room.new.items ≡ front.now ++ codes "10") }
 {
@@ -124,7 +125,7 @@ fn put_front(room: &mut Room, front: &[u8]) -> Result<(), Full>
 /// The step with what a word means in place of its last argument: in a store a string, in a kill or a
 /// delivery the name of a signal. Nothing where the word does not mean that, or for another step.
 fn with_last(step: &Step, word: &[u8]) -> Option<Step>
-    ensures { IfSome result (IsRetold word.now step.now) }
+    ensures { IfSome result (IsRespelled word.now step.now) }
 {
     match step {
         Step::Call(pid, Call::Store(address, _)) => {
@@ -150,7 +151,7 @@ fn bytes_of(word: &[u8]) -> Option<ArrayVec<u8, 64>>
     }
 }
 
-/// The same where only other blanks part the words.
+/// The same where only other blanks separate the words.
 fn read_squeezed(version: Version, line: &[u8], room: &mut Room, step: &mut Step) -> bool
     requires { length line.now ≤ 512 }
     ensures found { IfSome (then_some result step.new) (λ s.
@@ -161,8 +162,8 @@ fn read_squeezed(version: Version, line: &[u8], room: &mut Room, step: &mut Step
     put_squeezed(room, from_word(line)) && read_step_into(version, room.as_slice(), step)
 }
 
-/// Appends the words of a line that begins with one, up to a comment, with a space between each two.
-/// Answers whether each other byte is one of version 2, and the room was enough.
+/// Appends the words of a line that begins with one, up to a comment, with a space between each
+/// two. Returns whether each other byte is one of version 2, and the room was enough.
 fn put_squeezed(room: &mut Room, line: &[u8]) -> bool
     ensures { IsTrue result → Some room.new.items
         ≡ option_map (λ text. room.old.items ++ text) (squeezed false line.now) }
@@ -187,7 +188,7 @@ fn put_squeezed(room: &mut Room, line: &[u8]) -> bool
 }
 
 /// Appends a byte of a word, with a space before it where blanks came before.
-#[inline(always)] // each byte of such a line asks it
+#[inline(always)] // each byte of such a line needs it
 fn put_spaced(room: &mut Room, gap: bool, byte: u8) -> Result<(), Full>
     ensures { OnOk result (room.new.items ≡ room.old.items ++ spaced_byte gap byte) }
 {

@@ -1,10 +1,10 @@
-//! Which argument of which call may be told otherwise than version 2 tells it.
+//! Which argument of which call may be spelled otherwise than in version 2.
 ghost use Rattle.std.specs.Prelude.{◌≡◌};
 ghost use Rattle.tx_translate.specs.Roles.{role_at, role_in_sigaction, role_of};
 
 use crate::spellings::is;
 
-/// What an argument may be told by.
+/// How an argument may be spelled.
 #[derive(Clone, Copy)]
 pub enum Role {
     /// As in version 2.
@@ -18,7 +18,7 @@ pub enum Role {
 }
 
 /// The role of the argument of a call at a place, from 0.
-#[inline(always)] // each argument of a line asks it
+#[inline(always)] // each argument of a line needs it
 pub fn role_of(name: &[u8], place: usize) -> Role
     ensures { result ≡ role_of name.now place }
 {

@@ -1,4 +1,4 @@
-//! Reads sets of signals, told by names and numbers in any order.
+//! Reads sets of signals, by names and numbers in any order.
 ghost use Rattle.std.specs.Prelude.{◌≡◌, ◌++◌, IfOk, OnErr, OnOk, option_map, Some};
 ghost use Rattle.tx_base.specs.Signals.{bits_of};
 ghost use Rattle.tx_lines.specs.Lists.{member_text, some_after};
@@ -20,8 +20,8 @@ const KNOWN: [u8; 19] = [
     1, 2, 3, 6, 9, 10, 12, 13, 14, 15, 17, 32, 33, 34, 35, 36, 37, 38, 39,
 ];
 
-/// The set whose signals are the parts of a word, which commas part. Nothing where a part is no
-/// signal, or a signal stands twice.
+/// The set whose signals are the parts of a word between commas. Nothing where a part is no
+/// signal, or a signal occurs twice.
 pub fn set_in(word: &[u8]) -> Option<SigSet>
     ensures { option_map (λ r. bits_of r) result ≡ set_in word.now }
 {

@@ -1,8 +1,8 @@
-//! Where a text stands between its lines.
+//! The stages of a text between its lines.
 
 use tx_lines::TextKind;
 
-/// Where a text stands before a line.
+/// The stage of a text before a line.
 #[derive(Clone, Copy)]
 pub enum Stage {
     /// Its header is yet to come.

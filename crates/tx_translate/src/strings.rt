@@ -5,8 +5,8 @@ ghost use Rattle.tx_translate.specs.Strings.{after_first, escape_of, meant, mean
 
 use arrayvec::ArrayVec;
 
-/// The bytes that a string means after its first `"`, 1 to 64. Nothing where it has no end, another
-/// escape, more behind its end, or another number of bytes.
+/// The bytes that a string means after its first `"`, 1 to 64. Nothing where it has no end,
+/// another escape, more after its end, or another number of bytes.
 pub fn meant(string: &[u8]) -> Option<ArrayVec<u8, 64>>
     ensures meant { option_map (λ r. r.items) result ≡ meant string.now }
     ensures some { IfSome result (λ r. 0 < length r.items) }
@@ -28,8 +28,8 @@ pub fn meant(string: &[u8]) -> Option<ArrayVec<u8, 64>>
     None
 }
 
-/// The byte that stands first in what is left of a string, by itself or by an escape, and what
-/// follows. Nothing where there is no such escape, or nothing is left.
+/// The first byte of what is left of a string, by itself or by an escape, and what follows.
+/// Nothing where there is no such escape, or nothing is left.
 fn split_byte(left: &[u8]) -> Option<(u8, &[u8])>
     requires { slice_index left.now 0 ≢ 34 }
     ensures meant { MatchOption result (meant_from false left.now ≡ None) (λ r.
@@ -45,7 +45,7 @@ fn split_byte(left: &[u8]) -> Option<(u8, &[u8])>
     Some((byte, rest))
 }
 
-/// The byte that an escape stands for, by the byte after its `\`. Nothing where there is no such
+/// The byte that an escape means, by the byte after its `\`. Nothing where there is no such
 /// escape.
 fn escape(byte: u8) -> Option<u8>
     ensures { result ≡ escape_of byte }

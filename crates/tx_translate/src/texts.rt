@@ -17,9 +17,9 @@ pub enum Text {
     Program(Program),
 }
 
-/// What a text of any version means: a schedule, one with commands, or a program. Each line is read once,
-/// and nothing is translated as a whole. Nothing where the text means none of these. The only error is
-/// that a growth of memory was refused.
+/// What a text of any version means: a schedule, one with commands, or a program. Each line is
+/// read once, and nothing is translated as a whole. Nothing where the text means none of these.
+/// The only error is a refused growth of memory.
 pub fn read_text(alloc: Global, text: &[u8]) -> Result<Option<Text>, NoMemory>
     ensures { IfOk result (λ found. IfSome found (MeansText text.now)) }
 {

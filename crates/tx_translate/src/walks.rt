@@ -41,9 +41,9 @@ pub fn commands_after(
         × (left_of lines.entry ≡ debug_line ++ 10 ∷ lines_of command_text commands.items))) }
 {
     let mut room = Room::new();
-    let (line, behind) = lines.cut();
+    let (line, rest) = lines.cut();
     if line.is_ended && line.is_debug(&mut room) {
-        commands_in(alloc, version, behind)
+        commands_in(alloc, version, rest)
     } else {
         Ok(None)
     }
@@ -61,7 +61,7 @@ fn commands_in(
     let mut commands = Vec::new(alloc);
     let mut room = Room::new();
     let mut left = lines;
-    while let Some((line, behind)) = left.split() {
+    while let Some((line, rest)) = left.split() {
         let Some(command) = command_of(version, line, &mut room) else {
             return Ok(None);
         };
@@ -69,7 +69,7 @@ fn commands_in(
             return Ok(None);
         }
         commands.push(command)?;
-        left = behind;
+        left = rest;
     }
     Ok(Some(commands))
 }

@@ -16,7 +16,7 @@ pub struct Word {
     pub length: usize,
 }
 
-/// The words of a line, which has no end. The only error is that a growth of memory was refused.
+/// The words of a line, which has no end. The only error is a refused growth of memory.
 pub fn words_in(alloc: Global, line: &[u8]) -> Result<Vec<Word>, NoMemory>
     ensures columns { IfOk result (λ words.
         map (λ word. word.column) words.items ≡ columns_in line.now) }
@@ -36,7 +36,7 @@ pub fn words_in(alloc: Global, line: &[u8]) -> Result<Vec<Word>, NoMemory>
     Ok(words)
 }
 
-/// The first word of a line, or of what is left of one behind a word, and what follows that word.
+/// The first word of a line, or of what is left of one after a word, and what follows that word.
 /// Nothing where there is no word.
 pub fn split_word(line: &[u8]) -> Option<(&[u8], &[u8])>
     ensures words { MatchOption result (words_in line.now ≡ [])
@@ -109,7 +109,7 @@ fn after_string(line: &[u8]) -> &[u8]
             return after_bare_word(rest);
         }
         left = if *byte == b'\\' {
-            behind_escaped(rest)
+            after_escaped(rest)
         } else {
             rest
         };
@@ -118,7 +118,7 @@ fn after_string(line: &[u8]) -> &[u8]
 }
 
 /// What follows the first byte, which another one escapes. Nothing where there is none.
-fn behind_escaped(bytes: &[u8]) -> &[u8]
+fn after_escaped(bytes: &[u8]) -> &[u8]
     ensures same { rest_from AfterBackslash bytes.now ≡ rest_from InString result.now }
     ensures shorter { length result.now ≤ length bytes.now }
 {

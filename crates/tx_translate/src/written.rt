@@ -30,7 +30,7 @@ pub struct Written<'a> {
 }
 
 impl<'a> Written<'a> {
-    /// What the author of a schedule wrote. The only error is that a growth of memory was refused.
+    /// What the author of a schedule wrote. The only error is a refused growth of memory.
     pub fn of(alloc: Global, text: &'a [u8]) -> Result<Written<'a>, NoMemory>
         ensures { IfOk result (λ written. notes_as written ≡ notes_of text.now) }
     {

@@ -13,5 +13,5 @@ loop-line-preserved c =
     let more = c.add_step.new.steps.items in
     let line = c.in-Some.line in
     let added = c.in_ok-add_step.ensures.added (search rules) in
-    one_more step_text (AreSteps version) (FitsStepOf version) so.steps.items more line (left_of so.left) (left_of c.in-Some.behind) (left_of c.args.lines) so.invariant
+    one_more step_text (AreSteps version) (FitsStepOf version) so.steps.items more line (left_of so.left) (left_of c.in-Some.rest) (left_of c.args.lines) so.invariant
     c.in-Some.ensures.line added.0 added.2 (steps_more version (line_of line) so.steps.items more so.invariant.good added.1 added.2)

@@ -10,7 +10,7 @@ loop-line-preserved c =
     let version = c.args.version in
     let of = c.in_ok-add_line.ensures in
     record {
-      so = one_more line_text (AreLines version) (IsLineOf version) at.lines.items c.add_line.new.lines.items c.in-Some.line (left_of at.left) (left_of c.in-Some.behind) (left_of c.args.left)
+      so = one_more line_text (AreLines version) (IsLineOf version) at.lines.items c.add_line.new.lines.items c.in-Some.line (left_of at.left) (left_of c.in-Some.rest) (left_of c.args.left)
           at.invariant.so c.in-Some.ensures.line (of.ended (search rules)) (of.added (search rules)) (of.good (search rules));
       labels = of.labels (search rules);
     }

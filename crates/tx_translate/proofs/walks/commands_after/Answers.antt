@@ -13,9 +13,9 @@ each P Q (Err error) more is = tt
 pub returns-then-is_debug : goal.returns-then-is_debug
 returns-then-is_debug c =
     let version = c.args.version in
-    let behind = left_of c.cut.result.1 in
+    let following = left_of c.cut.result.1 in
     let debug : line_of c.cut.result.0 ≡ debug_line = c.is_debug.ensures.0 c.if-is_debug.true in
-    let left = next_left (left_of c.args.lines) c.cut.result.0 behind c.cut.ensures.line c.if-line.true ∙ ap (λ (t : List ℕ). t ++ 10 ∷ behind) debug in
-    each (λ commands. AreCommands version commands.items × (behind ≡ lines_of command_text commands.items))
+    let left = next_left (left_of c.args.lines) c.cut.result.0 following c.cut.ensures.line c.if-line.true ∙ ap (λ (t : List ℕ). t ++ 10 ∷ following) debug in
+    each (λ commands. AreCommands version commands.items × (following ≡ lines_of command_text commands.items))
     (λ commands. AreCommands version commands.items × (left_of c.args.lines ≡ debug_line ++ 10 ∷ lines_of command_text commands.items)) c.commands_in.result
     (λ commands is. (is.0, left ∙ ap (λ (t : List ℕ). debug_line ++ 10 ∷ t) is.1)) c.commands_in.ensures

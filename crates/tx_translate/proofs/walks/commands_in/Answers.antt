@@ -15,6 +15,6 @@ loop-line-preserved c =
     let more = c.push.new.self.items in
     let few : length before < 4096 = search rules in
     let grown : more ≡ before ++ command ∷ [] = search rules in
-    one_more command_text (AreCommands version) (FitsCommand version) before more c.in-Some.line (left_of so.left) (left_of c.in-Some.behind) (left_of c.args.lines) so.invariant
+    one_more command_text (AreCommands version) (FitsCommand version) before more c.in-Some.line (left_of so.left) (left_of c.in-Some.rest) (left_of c.args.lines) so.invariant
     c.in-Some.ensures.line of.ended (record { added = command; more = grown; spelled = of.found; good = of.fits })
     (record { fit = all_more (FitsCommand version) before command more so.invariant.good.fit of.fits grown; few = omega (arith, few, length_more before command more grown) })
