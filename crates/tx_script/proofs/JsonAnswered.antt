@@ -12,16 +12,16 @@ use Rattle.tx_translate.specs.Meant.{meant_of, IsOwnFault}
 use Rattle.tx_script.specs.JsonTexts.{texts, IsFaultAs, Spelled}
 use Rattle.tx_script.specs.Grammars.{AnswersText}
 
--- where the only fault is want of memory
+-- where the only fault is lack of memory
 pub answers_text : {B : Type 0} (text : List ℕ) (spelled : Spelled) (result : Result (String B) Fault) → texts.IsGood spelled → meant_of text ≡ texts.text spelled
     → IfOk result (λ answer. string_bytes answer ≡ texts.answer spelled) → IfErr result (λ fault. fault ≡ NoMemory) → AnswersText texts text result
 answers_text text spelled (Ok answer) good same answers none = (spelled, good, same, answers)
 answers_text text spelled (Err fault) good same answers none = subst (FaultsBy (IsOwnFault texts.IsFault text)) (sym none) tt
 
 -- a fault is handed up
-pub faulted : {B : Type 0} (text : List ℕ) (result : Result (String B) Fault) (fault : Fault) → IsErrAnd result (λ told. told ≡ fault) → FaultsBy (IsOwnFault texts.IsFault text) fault → AnswersText texts text result
+pub faulted : {B : Type 0} (text : List ℕ) (result : Result (String B) Fault) (fault : Fault) → IsErrAnd result (λ reported. reported ≡ fault) → FaultsBy (IsOwnFault texts.IsFault text) fault → AnswersText texts text result
 faulted text (Ok answer) fault none is = absurd none
-faulted text (Err told) fault same is = subst (FaultsBy (IsOwnFault texts.IsFault text)) (sym same) is
+faulted text (Err reported) fault same is = subst (FaultsBy (IsOwnFault texts.IsFault text)) (sym same) is
 
 -- a fault of a text with commands, and of any other
 pub as_walk : (text : List ℕ) → kind_of text ≡ kinds.Walk → (fault : Fault) → IsWalkFault text fault → IsFaultAs (kind_of text) text fault

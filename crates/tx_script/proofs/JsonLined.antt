@@ -1,4 +1,4 @@
--- What steps do in a session, and the lines that they are answered.
+-- What steps do in a session, and the lines that answer them.
 use Rattle.std.proofs.Common.{◌≡◌, ℕ, List, [], ◌∷◌, ◌++◌, length, refl, sym, ap, ◌∙◌, append_assoc}
 use Rattle.std.proofs.lemmas.List.{append-nil}
 use Rattle.json.specs.Token.{Token}
@@ -27,9 +27,9 @@ pub one_line : (line : List Token) → text_of (line ∷ []) ≡ line_of line
 unfolding text_of
 one_line line = append-nil (line_of line)
 
--- a line behind a text, and then the rest
-pub line_behind : (text line rest more : List ℕ) → more ≡ text ++ line → text ++ (line ++ rest) ≡ more ++ rest
-line_behind text line rest more is = sym (append_assoc text line rest) ∙ ap (λ (t : List ℕ). t ++ rest) (sym is)
+-- a line after a text, and then the rest
+pub line_after : (text line rest more : List ℕ) → more ≡ text ++ line → text ++ (line ++ rest) ≡ more ++ rest
+line_after text line rest more is = sym (append_assoc text line rest) ∙ ap (λ (t : List ℕ). t ++ rest) (sym is)
 
 -- ---- steps
 
@@ -46,12 +46,12 @@ module _ (first old new : SessionState) (steps : List Step) (step : Step) (left 
       → whole ≡ more ++ text_of (step_lines begun (history_of new.entries) left)
   unfolding text_of step_lines
   one_reply_more text more whole so_far put =
-      let told : Reply → List ℕ = λ r. let h = history_with earlier step r in line_of (step_answer (length h) r) ++ text_of (step_lines begun h left) in
+      let lined : Reply → List ℕ = λ r. let h = history_with earlier step r in line_of (step_answer (length h) r) ++ text_of (step_lines begun h left) in
       let there : List Accepted → List ℕ = λ h. line_of (step_answer (length h) reply) ++ text_of (step_lines begun h left) in
       let count : length (history_of new.entries) ≡ length new.entries = history_length new.entries in
-      so_far ∙ ap (λ (r : Reply). text ++ told r) (replied first old new steps step left reply so answered made) ∙ ap (λ (h : List Accepted). text ++ there h) (sym made)
+      so_far ∙ ap (λ (r : Reply). text ++ lined r) (replied first old new steps step left reply so answered made) ∙ ap (λ (h : List Accepted). text ++ there h) (sym made)
       ∙ ap (λ (n : ℕ). text ++ (line_of (step_answer n reply) ++ text_of (step_lines begun (history_of new.entries) left))) count
-      ∙ line_behind text (line_of (step_answer (length new.entries) reply)) (text_of (step_lines begun (history_of new.entries) left)) more put
+      ∙ line_after text (line_of (step_answer (length new.entries) reply)) (text_of (step_lines begun (history_of new.entries) left)) more put
 
 pub replies_whole : (start : State) (history : List Accepted) (text whole : List ℕ) (left : List Step) → whole ≡ text ++ text_of (step_lines start history left) → left ≡ [] → text ≡ whole
 unfolding text_of step_lines
@@ -63,7 +63,7 @@ pub schedule_whole : (start : State) (steps : List Step) (booted kept made : Ses
     → text ≡ front ++ line_of (command_line (start_of made) (history_of made.entries) (position_of made) commands.State)
     → text ≡ text_of (step_lines start [] steps ++ command_line start (history_after start [] steps) (length (history_after start [] steps)) commands.State ∷ [])
 schedule_whole start steps booted kept made none front text starts empty same nothing lines leads boot at_end put =
-    put ∙ (λ i. told i ++ line_of (command_line (started i) (history i) (at i) commands.State))
+    put ∙ (λ i. lined i ++ line_of (command_line (started i) (history i) (at i) commands.State))
     ∙ ap (λ (t : List ℕ). text_of (step_lines start [] steps) ++ t) (sym (one_line last)) ∙ sym (text_append (step_lines start [] steps) (last ∷ []))
   where
     last : List Token
@@ -75,8 +75,8 @@ schedule_whole start steps booted kept made none front text starts empty same no
     before_all : history_of kept.entries ≡ []
     before_all = ap (λ (k : SessionState). history_of k.entries) same ∙ ap history_of empty
 
-    told : front ≡ text_of (step_lines start [] steps)
-    told = lines ∙ (λ i. nothing i ++ text_of (step_lines (first i) (before_all i) steps))
+    lined : front ≡ text_of (step_lines start [] steps)
+    lined = lines ∙ (λ i. nothing i ++ text_of (step_lines (first i) (before_all i) steps))
 
     started : start_of made ≡ start
     started = same_start made kept boot ∙ first

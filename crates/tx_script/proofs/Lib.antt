@@ -1,7 +1,7 @@
 pub mod Reported
-pub mod Told
+pub mod AnsweredTexts
 pub mod Walked
 pub mod JsonAnswered
 pub mod JsonLined
-pub mod RunTold
+pub mod RunLines
 pub mod StepsMade

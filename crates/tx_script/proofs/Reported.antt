@@ -14,22 +14,22 @@ use Rattle.tx_model.specs.Schedules.{history_with, answers_of, history_of}
 use Rattle.tx_model.specs.State.{State}
 use Rattle.tx_model.specs.View.{View, view}
 
--- so far: the steps that are left lead from the history so far to that of the whole schedule, and what is told of their replies, the first by that
--- number, from what is told so far to all
-pub record RepliesSoFar {A : Type 0} (told : ℕ → List Reply → List A) (start : State) (earlier : List Accepted) (steps : List Step) (before : List A) (machine : Content) (now : List A) (number : ℕ) (left : List Step) : Type 0 where
+-- so far: the steps that are left lead from the history so far to that of the whole schedule, and what is reported of their replies, the first
+-- by that number, from what is reported so far to all
+pub record RepliesSoFar {A : Type 0} (reported : ℕ → List Reply → List A) (start : State) (earlier : List Accepted) (steps : List Step) (before : List A) (machine : Content) (now : List A) (number : ℕ) (left : List Step) : Type 0 where
   pub history : List Accepted
   pub after : IsAfter start history machine
   pub leads : history_of start earlier steps ≡ history_of start history left
-  pub lines : before ++ told 1 (answers_of start earlier steps) ≡ now ++ told number (answers_of start history left)
+  pub lines : before ++ reported 1 (answers_of start earlier steps) ≡ now ++ reported number (answers_of start history left)
 
--- one step more, of whose reply that is told
-pub one_reply_more : {A : Type 0} (told : ℕ → List Reply → List A) (start : State) (earlier : List Accepted) (steps : List Step) (before : List A) (old new : Content) (now more one : List A) (number : ℕ) (step : Step) (left : List Step) (reply : Reply)
-    → RepliesSoFar told start earlier steps before old now number (step ∷ left) → reply ≡ answer (view_of old) step
+-- one step more, of whose reply that is reported
+pub one_reply_more : {A : Type 0} (reported : ℕ → List Reply → List A) (start : State) (earlier : List Accepted) (steps : List Step) (before : List A) (old new : Content) (now more one : List A) (number : ℕ) (step : Step) (left : List Step) (reply : Reply)
+    → RepliesSoFar reported start earlier steps before old now number (step ∷ left) → reply ≡ answer (view_of old) step
     → ((history : List Accepted) → IsAfter start history old → IsAfter start (history_with history step reply) new)
-    → ((others : List Reply) → told number (reply ∷ others) ≡ one ++ told (number + 1) others)
-    → more ≡ now ++ one → RepliesSoFar told start earlier steps before new more (number + 1) left
+    → ((others : List Reply) → reported number (reply ∷ others) ≡ one ++ reported (number + 1) others)
+    → more ≡ now ++ one → RepliesSoFar reported start earlier steps before new more (number + 1) left
 unfolding history_of answers_of
-one_reply_more {A} told start earlier steps before old new now more one number step left reply so replied made first put =
+one_reply_more {A} reported start earlier steps before old new now more one number step left reply so replied made first put =
     let h : List Accepted = so.history in
     let same : answer (view start h) step ≡ reply = sym (replied ∙ ap (λ (V : View). answer V step) so.after.view) in
     let others : List Reply = answers_of start (history_with h step reply) left in
@@ -38,19 +38,19 @@ one_reply_more {A} told start earlier steps before old new now more one number s
       after = made h so.after;
       leads = so.leads ∙ ap (λ (r : Reply). history_of start (history_with h step r) left) same;
       lines = so.lines
-          ∙ ap (λ (r : Reply). now ++ told number (r ∷ answers_of start (history_with h step r) left)) same
+          ∙ ap (λ (r : Reply). now ++ reported number (r ∷ answers_of start (history_with h step r) left)) same
           ∙ ap (λ (xs : List A). now ++ xs) (first others)
-          ∙ sym (append_assoc now one (told (number + 1) others))
-          ∙ ap (λ (xs : List A). xs ++ told (number + 1) others) (sym put);
+          ∙ sym (append_assoc now one (reported (number + 1) others))
+          ∙ ap (λ (xs : List A). xs ++ reported (number + 1) others) (sym put);
     }
 
 -- no step is left
-pub replies_whole : {A : Type 0} (told : ℕ → List Reply → List A) (start : State) (earlier : List Accepted) (steps : List Step) (before : List A) (machine : Content) (now : List A) (number : ℕ) (left : List Step)
-    → RepliesSoFar told start earlier steps before machine now number left → left ≡ [] → told number [] ≡ []
-    → (now ≡ before ++ told 1 (answers_of start earlier steps)) × IsAfter start (history_of start earlier steps) machine
+pub replies_whole : {A : Type 0} (reported : ℕ → List Reply → List A) (start : State) (earlier : List Accepted) (steps : List Step) (before : List A) (machine : Content) (now : List A) (number : ℕ) (left : List Step)
+    → RepliesSoFar reported start earlier steps before machine now number left → left ≡ [] → reported number [] ≡ []
+    → (now ≡ before ++ reported 1 (answers_of start earlier steps)) × IsAfter start (history_of start earlier steps) machine
 unfolding history_of answers_of
-replies_whole {A} told start earlier steps before machine now number left so none nothing = (
-  sym (so.lines ∙ ap (λ (xs : List Step). now ++ told number (answers_of start so.history xs)) none ∙ ap (λ (xs : List A). now ++ xs) nothing ∙ append-nil now),
+replies_whole {A} reported start earlier steps before machine now number left so none nothing = (
+  sym (so.lines ∙ ap (λ (xs : List Step). now ++ reported number (answers_of start so.history xs)) none ∙ ap (λ (xs : List A). now ++ xs) nothing ∙ append-nil now),
   subst (λ (h : List Accepted). IsAfter start h machine) (sym (so.leads ∙ ap (history_of start so.history) none)) so.after,
 )
 
@@ -58,7 +58,7 @@ replies_whole {A} told start earlier steps before machine now number left so non
 abbrev pub as_they_are : ℕ → List Reply → List Reply
 as_they_are number replies = replies
 
--- the answer, where it is not want of memory
+-- the answer, where it is not lack of memory
 pub replied_answer : (V : View) (step : Step) (reply : Reply) → (reply ≡ No NoMemory) ⊎ (answer V step ≡ reply) → (reply ≡ No NoMemory → ⊥) → reply ≡ answer V step
 replied_answer V step reply (inl wants) other = absurd (other wants)
 replied_answer V step reply (inr same) other = sym same

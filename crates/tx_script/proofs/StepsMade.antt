@@ -53,7 +53,7 @@ step_recorded old new worker step (Committed undelivered) adds same = ap history
 step_recorded old new worker step (Aborted status) adds same = ap history_of (adds tt) ∙ history_more old.entries (record { step = step; worker = worker; reply = Aborted status })
 step_recorded old new worker step (Out bytes) adds same = ap history_of (adds tt) ∙ history_more old.entries (record { step = step; worker = worker; reply = Out bytes })
 
--- the reply to a step that did not want memory, and the history after it
+-- the reply to a step that did not lack memory, and the history after it
 pub step_made : (old new : SessionState) (worker : ℕ) (step : Step) (reply : Reply) → IsAtEnd old → view_of old.machine ≡ view (start_of old) (history_of (made_of old))
     → (reply ≡ No NoMemory) ⊎ (answer (view_of old.machine) step ≡ reply) → (reply ≡ No NoMemory → ⊥)
     → (IsAccepted reply → new.entries ≡ old.entries ++ record { step = step; worker = worker; reply = reply } ∷ []) → ((IsAccepted reply → ⊥) → new ≡ old)

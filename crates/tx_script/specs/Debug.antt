@@ -1,4 +1,4 @@
--- What the commands of a debugger respond, and how that is told as text: functions of the history of the schedule and of the position alone.
+-- What the commands of a debugger respond, and its text: functions only of the history of the schedule and of the position.
 use Rattle.std.specs.Prelude.{ℕ, zero, suc, ◌+◌, List, [], ◌∷◌, ◌++◌, Option, Some, None, length, nat_le, nat_lt, reverse, take, codes, if◌then◌else◌}
 use Rattle.std.specs.Fmt.{decimal}
 use Rattle.tx_base.specs.declared.steps.Accepted.{Accepted}
@@ -28,9 +28,9 @@ view_at start history at = view start (first_steps at history)
 abbrev pub position_text : ℕ → List ℕ
 position_text at = codes "at " ++ (decimal at ++ codes "\n")
 
--- the line of a history in which the steps of a transaction stand together
-abbrev pub told_text : Told → List ℕ
-told_text told = (if told.one_moment then codes "moved one " else codes "moved many ") ++ (list_text told.numbers ++ codes "\n")
+-- the line of a history in which the steps of a transaction are together
+abbrev pub moved_line : Told → List ℕ
+moved_line moved = (if moved.one_moment then codes "moved one " else codes "moved many ") ++ (list_text moved.numbers ++ codes "\n")
 
 -- what a command responds once it is done
 pub data Responded : Type 0 where
@@ -45,7 +45,7 @@ pub data Responded : Type 0 where
   moves : Told → Responded
   no_commit : Responded
 
--- what a response tells
+-- what a response says
 abbrev pub responded_in : Response → Responded
 responded_in responses.Position = at_position
 responded_in responses.State = the_state
@@ -58,7 +58,7 @@ responded_in responses.NoCommit = no_commit
 -- the response about an entry
 abbrev pub commit_response : Option Told → Responded
 commit_response None = no_commit
-commit_response (Some told) = moves told
+commit_response (Some moved) = moves moved
 
 -- what a command at a position responds
 abbrev pub command_response : Start → List Accepted → ℕ → Command → Responded
@@ -85,7 +85,7 @@ response_text start history at the_state = state_text (view_at start history at)
 response_text start history at no_start = codes "no start\n"
 response_text start history at no_end = codes "no end\n"
 response_text start history at no_place = codes "no place\n"
-response_text start history at (moves told) = told_text told
+response_text start history at (moves moved) = moved_line moved
 response_text start history at no_commit = codes "no commit\n"
 
 -- how the answer to a command at a position is written

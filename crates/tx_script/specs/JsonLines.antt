@@ -1,4 +1,4 @@
--- The lines of JSON that a schedule, or commands on it, are answered: functions of the history of the schedule.
+-- The lines of JSON that answer a schedule, or commands on it: functions of the history of the schedule.
 use Rattle.std.specs.Prelude.{ℕ, List, [], ◌∷◌, ◌++◌, codes, length}
 use Rattle.json.specs.Print.{print}
 use Rattle.json.specs.Token.{Token}
@@ -30,7 +30,7 @@ unfoldable pub text_of : List (List Token) → List ℕ
 text_of [] = []
 text_of (line ∷ lines) = line_of line ++ text_of lines
 
--- what each step is answered, on the history before it; where it is accepted its number is that of the steps accepted so far
+-- the answer to each step, on the history before it; where it is accepted its number is that of the steps accepted so far
 unfoldable pub step_lines : State → List Accepted → List Step → List (List Token)
 step_lines start earlier [] = []
 step_lines start earlier (step ∷ steps) =
@@ -40,11 +40,11 @@ step_lines start earlier (step ∷ steps) =
 
 -- whether a transaction may count as one moment, and the entries with its steps together
 abbrev pub moved_members : Told → List Token
-moved_members told = flag_member (codes "one_moment") told.one_moment ++ list_member (codes "entries") (each_tokens count_item told.numbers)
+moved_members moved = flag_member (codes "one_moment") moved.one_moment ++ list_member (codes "entries") (each_tokens count_item moved.numbers)
 
 -- what JSON has of a response after the lines of its text
 abbrev pub response_members : Responded → List Token
-response_members (moves told) = moved_members told
+response_members (moves moved) = moved_members moved
 response_members no_commit = null_member (codes "entries")
 response_members response = []
 
@@ -53,7 +53,7 @@ abbrev pub response_line : State → List Accepted → ℕ → Responded → Lis
 response_line start history at the_state = state_answer at (view_at start history at)
 response_line start history at response = lines_with at (response_text start history at response) (response_members response)
 
--- what a command at a position is answered
+-- the answer to a command at a position
 abbrev pub command_line : State → List Accepted → ℕ → Command → List Token
 command_line start history at command = response_line start history (position_after history at command) (command_response start history at command)
 
@@ -61,7 +61,7 @@ command_line start history at command = response_line start history (position_af
 abbrev pub json_answer : Writing
 json_answer start history at command = line_of (command_line start history at command)
 
--- how a form writes what a command answers
+-- how a form writes the answer to a command
 abbrev pub written_in : Form → Writing
 written_in Text = command_answer
 written_in Json = json_answer

@@ -1,4 +1,4 @@
--- The lines of JSON that tell a run: one for each entry of its journal, and one for the state at the position.
+-- The lines of JSON that report a run: one for each entry of its journal, and one for the state at the position.
 use Rattle.std.specs.Prelude.{ℕ, ◌+◌, List, [], ◌∷◌, ◌++◌}
 use Rattle.json.specs.Token.{Token}
 use Rattle.tx_journal.specs.Entries.{history_of}

@@ -1,4 +1,4 @@
--- The texts that are answered as JSON: schedules, and schedules with commands.
+-- The texts with an answer as JSON: schedules, and schedules with commands.
 use Rattle.std.specs.Prelude.{List, ℕ, Option, Some, None}
 use Rattle.tx_base.specs.declared.steps.Step.{Step}
 use Rattle.tx_check.specs.Kinds.{kind_of}

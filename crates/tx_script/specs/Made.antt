@@ -7,7 +7,7 @@ use Rattle.tx_lines.specs.declared.read.header.Header.{Header}
 use Rattle.tx_model.specs.Schedules.{history_of as history_after}
 use Rattle.tx_script.specs.Report.{start_state}
 
--- it began as the header says, has the history of those steps, and stands at the end
+-- it began as the header says, has the history of those steps, and is at the end
 pub record IsMade (header : Header) (steps : List Step) (session : SessionState) : Type 0 where
   pub start : start_of session ≡ start_state header
   pub history : history_of session.entries ≡ history_after (start_state header) [] steps

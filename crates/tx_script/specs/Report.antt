@@ -1,4 +1,4 @@
--- The report of a schedule: what each step is answered, and the state that the last one leaves.
+-- The report of a schedule: the answer to each step, and the state that the last one leaves.
 use Rattle.std.specs.Prelude.{ℕ, ◌+◌, List, [], ◌∷◌, ◌++◌}
 use Rattle.std.specs.Fmt.{decimal}
 use Rattle.tx_base.specs.declared.steps.Reply.{Reply}

@@ -1,4 +1,4 @@
-//! Makes the steps of a schedule, and keeps what each is answered.
+//! Makes the steps of a schedule, and keeps the reply to each.
 ghost use Rattle.std.specs.Prelude.{◌≡◌, ◌++◌, [], List, IfErr, IfOk, OnOk};
 ghost use Rattle.tx_base.specs.declared.steps.Accepted.{Accepted};
 ghost use Rattle.tx_core.specs.Runs.{IsAfter};
@@ -17,7 +17,7 @@ use tx_content::Inverse;
 use tx_core::Machine;
 use tx_lines::{Fault, Schedule};
 
-/// What the steps of a schedule are answered, and the machine that they leave.
+/// The replies to the steps of a schedule, and the machine that they leave.
 #[derive(Drop)]
 pub struct Answered {
     /// The reply to each step, in order.
@@ -66,8 +66,8 @@ fn make_steps(
     Ok(())
 }
 
-/// Makes a step, which is never taken back, and puts its reply and its inverse into their places. The
-/// only fault is `NoMemory`.
+/// Makes a step, which is never taken back, and puts its reply and its inverse into their places.
+/// The only fault is `NoMemory`.
 pub fn make_step(
     alloc: Global,
     machine: &mut Machine,

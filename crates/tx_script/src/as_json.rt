@@ -1,4 +1,4 @@
-//! What a text, or a run, is answered as lines of JSON.
+//! The answers to a text, or to a run, as lines of JSON.
 //!
 //! Of a schedule there is a line for each reply, and one for the state that the last step left
 //! (`steps.rt`); of commands one for what each of them responds (`responses.rt`). The lines are those

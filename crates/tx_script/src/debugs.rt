@@ -11,8 +11,8 @@ use tx_lines::{Fault, Sink, Source, read_whole, write_whole};
 use tx_translate::read_walk;
 
 /// Reads the text of a schedule, the line `debug` and commands to its end, makes the steps, and
-/// writes what the commands answer: each is about the history of the schedule and the position
-/// where it stands. Nothing is written where the fault is another one than `Writer`.
+/// writes what the commands answer about the history of the schedule and its position. Nothing is
+/// written where the fault is another one than `Writer`.
 pub fn debug<S: Source, W: Sink>(alloc: Global, source: &mut S, sink: &mut W) -> Result<(), Fault>
     requires source { IsFresh (S.counts source.old) }
     requires sink { IsFresh (W.counts sink.old) }
@@ -26,7 +26,7 @@ pub fn debug<S: Source, W: Sink>(alloc: Global, source: &mut S, sink: &mut W) ->
 
 /// What the commands of a text answer, as `debug` writes it. The text may be of any version.
 ///
-/// A fault where the text can't be read, or a growth of memory is refused, as `debug` tells it.
+/// A fault where the text can't be read, or a growth of memory is refused, as `debug` reports it.
 pub fn debug_text(alloc: Global, text: &[u8]) -> Result<String, Fault>
     ensures { AnswersText walks text.now result }
 {

@@ -1,6 +1,6 @@
-//! In which form steps and commands are answered.
+//! The form of the answers to steps and commands.
 
-/// In which form steps and commands are answered.
+/// The form of the answers to steps and commands.
 #[derive(Clone, Copy)]
 pub enum Form {
     /// As lines that a person reads.

@@ -1,4 +1,4 @@
-//! Begins as a header says.
+//! Boots a machine as a header says.
 ghost use Rattle.std.specs.Prelude.{◌≡◌, IfErr, IfOk};
 ghost use Rattle.tx_lines.specs.Lines.{FitsHeader};
 ghost use Rattle.tx_lines.specs.declared.faults.Fault.TheVariants.{NoMemory};
@@ -9,8 +9,8 @@ use std::alloc::Global;
 use tx_core::Machine;
 use tx_lines::{Fault, Header, Version};
 
-/// A machine before its first step, with the processes of a header: of 64 that it may have in version 1, and
-/// of 256 in version 2.
+/// A machine before its first step, with the processes of a header: of 64 that it may have in
+/// version 1, and of 256 in version 2.
 ///
 /// The only fault is `NoMemory`.
 pub fn boot(alloc: Global, header: Header) -> Result<Machine, Fault>

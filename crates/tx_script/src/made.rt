@@ -48,7 +48,7 @@ fn make_steps(alloc: Global, session: &mut Session, steps: &[Step]) -> Result<()
     Ok(())
 }
 
-/// Makes a step at the end of the journal, and puts its reply where it is to stand.
+/// Makes a step at the end of the journal, and puts its reply in its place.
 pub fn make_step(
     alloc: Global,
     session: &mut Session,

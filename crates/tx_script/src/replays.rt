@@ -22,10 +22,10 @@ pub fn replay<S: Source, W: Sink>(alloc: Global, source: &mut S, sink: &mut W) -
     write_whole(sink, report.as_bytes())
 }
 
-/// The report of the schedule that a text spells, or means, as `replay` writes it. The text may be of any
-/// version.
+/// The report of the schedule that a text spells, or means, as `replay` writes it. The text may be
+/// of any version.
 ///
-/// A fault where the text can't be read, or a growth of memory is refused, as `replay` tells it.
+/// A fault where the text can't be read, or a growth of memory is refused, as `replay` reports it.
 pub fn replay_text(alloc: Global, text: &[u8]) -> Result<String, Fault>
     ensures { AnswersText schedules text.now result }
 {

@@ -68,7 +68,7 @@ fn put_reply_line(text: &mut String, number: &Numeral, reply: &Reply) -> Result<
     number.append_to(text)?;
     if let Reply::Done(ret) = reply {
         if *ret == 0 {
-            return put(text, " ok 0\n"); // what most steps are answered
+            return put(text, " ok 0\n"); // the reply to most steps
         }
         put(text, " ok ")?;
         put_number(text, *ret)?;
@@ -76,7 +76,7 @@ fn put_reply_line(text: &mut String, number: &Numeral, reply: &Reply) -> Result<
     }
     if let Reply::Aborted(status) = reply {
         if *status == ABORTED_BY_CALL {
-            return put(text, " aborted 201\n"); // and most aborts
+            return put(text, " aborted 201\n"); // and to most aborts
         }
     }
     put(text, " ")?;

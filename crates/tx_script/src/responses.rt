@@ -3,14 +3,14 @@ ghost use Rattle.std.specs.Prelude.{◌≡◌, ◌++◌, OnOk, string_bytes};
 ghost use Rattle.tx_journal.specs.Entries.{history_of};
 ghost use Rattle.tx_journal.specs.Moved.{told_in};
 ghost use Rattle.tx_journal.specs.Sessions.{position_of, start_of};
-ghost use Rattle.tx_script.specs.Debug.{position_text, responded_in, response_text, told_text};
+ghost use Rattle.tx_script.specs.Debug.{moved_line, position_text, responded_in, response_text};
 
 use std::alloc::AllocError;
 use tx_journal::{Moved, Session, put_state};
 use tx_lines::{put, put_count, put_numbers};
 
-/// What a command responds once it is done. It is printed with the session at the position to which the
-/// command led: the position and the state are printed from there.
+/// The response to a command. It is printed with the session at the position to which the command
+/// led: the position and the state are printed from there.
 #[derive(Drop)]
 pub enum Response {
     /// The position.
@@ -23,8 +23,8 @@ pub enum Response {
     NoEnd,
     /// That there is no such position.
     NoPlace,
-    /// The entries, with the steps of a transaction put directly before the entry that commits it. In a
-    /// place of its own, since any other response is small.
+    /// The entries, with the steps of a transaction put directly before the entry that commits it.
+    /// In a place of its own, since any other response is small.
     Moved(Box<Moved>),
     /// That the entry commits no transaction, or is not there.
     NoCommit,
@@ -63,10 +63,10 @@ fn put_position(text: &mut String, position: usize) -> Result<(), AllocError>
     put(text, "\n")
 }
 
-/// Appends the line of a history in which the steps of a transaction stand together.
+/// Appends the line of a history in which the steps of a transaction are together.
 fn put_moved(text: &mut String, moved: &Moved) -> Result<(), AllocError>
     ensures { OnOk result
-        (string_bytes text.new ≡ string_bytes text.old ++ told_text (told_in moved.now)) }
+        (string_bytes text.new ≡ string_bytes text.old ++ moved_line (told_in moved.now)) }
 {
     let kind = if moved.one_moment {
         "moved one "

@@ -12,11 +12,11 @@ use tx_base::NoMemory;
 use tx_journal::{AtStart, ForwardFault, GotoFault, MovedFault, Session};
 use tx_lines::Command;
 
-/// Does what a command says, and gives what it responds.
+/// Does what a command says, and gives its response.
 ///
-/// NoMemory where a growth is refused: the position is then the old one, or lies between that and the one
-/// to which the command leads.
-#[inline(always)] // each command asks it, and a call of its own costs 30
+/// NoMemory where a growth is refused: the position is then the old one, or is between that and
+/// the one to which the command leads.
+#[inline(always)] // each command needs it, and a call of its own costs 30
 pub fn walk(alloc: Global, session: &mut Session, command: Command) -> Result<Response, NoMemory>
     ensures response { IfOk result (λ response. responded_in response
         ≡ command_response (start_of session.old) (history_of session.old.entries)
@@ -70,7 +70,7 @@ fn forward(alloc: Global, session: &mut Session) -> Result<Response, NoMemory>
 {
     match session.forward(alloc) {
         Ok(()) => {
-            // It lies within the journal, so there was a next entry.
+            // It is within the journal, so there was a next entry.
             let _position = session.position();
             Ok(Response::Position)
         }

@@ -22,7 +22,7 @@ use tx_lines::put;
 
 /// Appends the line of a response.
 ///
-/// NoMemory where a growth is refused: some of the line may then stand behind what the text had.
+/// NoMemory where a growth is refused: the text may then end with a part of the line.
 pub fn put_line(
     alloc: Global,
     text: &mut String,
@@ -68,9 +68,9 @@ fn with_lines(alloc: Global, session: &Session, response: &Response) -> Result<S
         (position_of session.now) (responded_in response.now))
         (response_members (responded_in response.now))) (string_bytes text)) }
 {
-    let mut told = String::new(alloc);
-    put_response(&mut told, session, response)?;
-    let mut writer = begin_lines(alloc, session.position(), told.as_str())?;
+    let mut lines = String::new(alloc);
+    put_response(&mut lines, session, response)?;
+    let mut writer = begin_lines(alloc, session.position(), lines.as_str())?;
     put_members(&mut writer, response)?;
     end_answer(writer)
 }

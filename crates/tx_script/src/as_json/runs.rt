@@ -1,4 +1,4 @@
-//! Tells what a run did, and the state that it left, as lines of JSON.
+//! Prints what a run did, and the state that it left, as lines of JSON.
 ghost use Rattle.std.specs.Prelude.{◌≡◌, ◌++◌, IfErr, IfOk, OnOk, string_bytes};
 ghost use Rattle.tx_lines.specs.declared.faults.Fault.TheVariants.{NoMemory};
 ghost use Rattle.tx_script.specs.JsonLines.{line_of, text_of};

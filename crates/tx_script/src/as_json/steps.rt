@@ -19,7 +19,7 @@ use tx_journal::Session;
 use tx_json::put_step_answer;
 use tx_lines::{Fault, Schedule, put};
 
-/// A line for what each step of a schedule is answered, and one for the state after the last. The only
+/// A line for the reply to each step of a schedule, and one for the state after the last. The only
 /// fault is `NoMemory`.
 pub fn schedule_lines(alloc: Global, schedule: &Schedule) -> Result<String, Fault>
     requires { FitsHeader schedule.now.header }
@@ -60,8 +60,8 @@ fn put_replies(
     Ok(())
 }
 
-/// Appends the line of a reply, behind so many steps that were accepted. It is made in the room of the
-/// line before.
+/// Appends the line of a reply, after so many steps that were accepted. It is made in the room of
+/// the line before.
 fn put_reply(
     alloc: Global,
     text: &mut String,

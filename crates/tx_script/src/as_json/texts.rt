@@ -33,11 +33,11 @@ pub fn write_json<S: Source, W: Sink>(
     write_whole(sink, lines.as_bytes())
 }
 
-/// What a text of any version is answered, a line of JSON each: of a schedule the reply to each step, and
-/// then the state; of a schedule with commands what each command answers.
+/// The answer to a text of any version, a line of JSON each: of a schedule the reply to each step,
+/// and then the state; of a schedule with commands what each command answers.
 ///
-/// A fault where the text can't be read, or a growth of memory is refused, as `replay` and `debug` tell
-/// it. A program is no schedule: its first line is at fault.
+/// A fault where the text can't be read, or a growth of memory is refused, as `replay` and `debug`
+/// report it. A program is no schedule: its first line is at fault.
 pub fn json_text(alloc: Global, text: &[u8]) -> Result<String, Fault>
     ensures { AnswersText texts text.now result }
 {
@@ -56,7 +56,7 @@ fn walk_text(alloc: Global, text: &[u8]) -> Result<String, Fault>
     answer_walk(alloc, Form::Json, &walk)
 }
 
-/// What the steps of a text are answered, and the state that they leave.
+/// The replies to the steps of a text, and the state that they leave.
 fn schedule_text(alloc: Global, text: &[u8]) -> Result<String, Fault>
     requires { kind_of (meant_of text.now) ≢ kinds.Walk }
     ensures { AnswersText texts text.now result }

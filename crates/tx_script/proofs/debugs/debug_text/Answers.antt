@@ -1,4 +1,4 @@
-use Rattle.tx_script.proofs.Told.{answers_text}
+use Rattle.tx_script.proofs.AnsweredTexts.{answers_text}
 use Rattle.tx_script.specs.Grammars.{walks}
 use Rattle.tx_script.proofs.debugs.debug_text.Goals as goal
 

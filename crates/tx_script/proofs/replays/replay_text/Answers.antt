@@ -1,4 +1,4 @@
-use Rattle.tx_script.proofs.Told.{answers_text}
+use Rattle.tx_script.proofs.AnsweredTexts.{answers_text}
 use Rattle.tx_script.specs.Grammars.{schedules}
 use Rattle.tx_script.proofs.replays.replay_text.Goals as goal
 

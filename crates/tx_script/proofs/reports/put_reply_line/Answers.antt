@@ -7,10 +7,10 @@ use Rattle.std.proofs.lemmas.Fmt.{decimal_digit, decimal_step}
 use Rattle.tx_script.specs.Report.{line_text}
 use Rattle.tx_script.proofs.reports.put_reply_line.Goals as goal
 
--- a line whose number was appended, and then what stands behind it
-line_behind : (before appended number behind line : List ℕ) → appended ≡ before ++ number → line ≡ number ++ behind → appended ++ behind ≡ before ++ line
-line_behind before appended number behind line is spelled =
-    ap (λ (front : List ℕ). front ++ behind) is ∙ append_assoc before number behind ∙ ap (λ (bytes : List ℕ). before ++ bytes) (sym spelled)
+-- a line whose number was appended, and then what follows it
+line_after : (before appended number following line : List ℕ) → appended ≡ before ++ number → line ≡ number ++ following → appended ++ following ≡ before ++ line
+line_after before appended number following line is spelled =
+    ap (λ (front : List ℕ). front ++ following) is ∙ append_assoc before number following ∙ ap (λ (bytes : List ℕ). before ++ bytes) (sym spelled)
 
 -- the status of an abort that a member asked for
 called_off : decimal 201 ≡ codes "201"
@@ -26,7 +26,7 @@ returns-then-ret-eq0 c =
     let line : line_text c.args.number.now c.args.reply.now ≡ decimal c.args.number.now ++ codes " ok 0\n" =
     ap (line_text c.args.number.now) c.in-Done.is ∙ ap (λ (digits : List ℕ). decimal c.args.number.now ++ 32 ∷ ((codes "ok " ++ digits) ++ 10 ∷ [])) spelled in
     subst (λ (bytes : List ℕ). OnOk c.put.result (string_bytes c.put.new.text ≡ bytes))
-    (line_behind (string_bytes c.args.text.now) (string_bytes c.append_to.new.text) (decimal c.args.number.now) (codes " ok 0\n") (line_text c.args.number.now c.args.reply.now) c.in_ok-append_to.ensures line)
+    (line_after (string_bytes c.args.text.now) (string_bytes c.append_to.new.text) (decimal c.args.number.now) (codes " ok 0\n") (line_text c.args.number.now c.args.reply.now) c.in_ok-append_to.ensures line)
     c.put.ensures
 
 pub returns-then-status-eq-ABORTED_BY_CALL : goal.returns-then-status-eq-ABORTED_BY_CALL
@@ -35,5 +35,5 @@ returns-then-status-eq-ABORTED_BY_CALL c =
     let line : line_text c.args.number.now c.args.reply.now ≡ decimal c.args.number.now ++ codes " aborted 201\n" =
     ap (line_text c.args.number.now) c.in-Aborted.is ∙ ap (λ (digits : List ℕ). decimal c.args.number.now ++ 32 ∷ ((codes "aborted " ++ digits) ++ 10 ∷ [])) spelled in
     subst (λ (bytes : List ℕ). OnOk c.put-then-status-eq-ABORTED_BY_CALL.result (string_bytes c.put-then-status-eq-ABORTED_BY_CALL.new.text ≡ bytes))
-    (line_behind (string_bytes c.args.text.now) (string_bytes c.append_to.new.text) (decimal c.args.number.now) (codes " aborted 201\n") (line_text c.args.number.now c.args.reply.now) c.in_ok-append_to.ensures line)
+    (line_after (string_bytes c.args.text.now) (string_bytes c.append_to.new.text) (decimal c.args.number.now) (codes " aborted 201\n") (line_text c.args.number.now c.args.reply.now) c.in_ok-append_to.ensures line)
     c.put-then-status-eq-ABORTED_BY_CALL.ensures

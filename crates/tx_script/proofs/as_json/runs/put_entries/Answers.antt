@@ -1,5 +1,5 @@
 use Rattle.std.proofs.Common.{rules, ◌≡◌, ◌<◌, ◌≤◌, get_or, length, refl, string_bytes}
-use Rattle.tx_script.proofs.RunTold.{all_entries, one_entry_more}
+use Rattle.tx_script.proofs.RunLines.{all_entries, one_entry_more}
 use Rattle.tx_script.proofs.as_json.runs.put_entries.Goals as goal
 
 pub loop-i-init : goal.loop-i-init

@@ -1,5 +1,5 @@
 use Rattle.std.proofs.Common.{string_bytes}
-use Rattle.tx_script.proofs.RunTold.{EntriesSoFar}
+use Rattle.tx_script.proofs.RunLines.{EntriesSoFar}
 use Rattle.tx_script.proofs.as_json.runs.put_entries.Given as goal
 
 abbrev pub invariant-loop-i : goal.invariant-loop-i

@@ -3,7 +3,7 @@ use Rattle.std.proofs.Common.{◌≡◌, ℕ, suc, ◌+◌, ◌<◌, ◌≤◌, 
 use Rattle.std.proofs.lemmas.List.{append-nil}
 use Rattle.std.proofs.Math.ListN.{drop_of_length-le}
 use Rattle.tx_journal.specs.declared.entry.Entry.{Entry}
-use Rattle.tx_script.proofs.JsonLined.{line_behind}
+use Rattle.tx_script.proofs.JsonLined.{line_after}
 use Rattle.tx_script.specs.JsonLines.{line_of, text_of}
 use Rattle.tx_script.specs.JsonRuns.{entry_line, entry_lines}
 
@@ -21,7 +21,7 @@ one_entry_more entries i entry before text more within is so put =
     ∙ ap (λ (n : ℕ). entry ∷ drop n entries) (sym (add-one i)) in
     so
     ∙ ap (λ (xs : List Entry). text ++ text_of (entry_lines (i + 1) xs)) cut
-    ∙ line_behind text (line_of (entry_line (i + 1) entry)) (text_of (entry_lines (i + 1 + 1) (drop (i + 1) entries))) more put
+    ∙ line_after text (line_of (entry_line (i + 1) entry)) (text_of (entry_lines (i + 1 + 1) (drop (i + 1) entries))) more put
 
 pub all_entries : (entries : List Entry) (i : ℕ) (before text : List ℕ) → length entries ≤ i → EntriesSoFar entries before text i → text ≡ before ++ text_of (entry_lines 1 entries)
 unfolding text_of entry_lines

@@ -6,7 +6,7 @@ use Rattle.tx_lines.specs.declared.faults.Fault.{Fault}
 use Rattle.tx_lines.specs.declared.faults.Fault.TheVariants.{NoMemory}
 use Rattle.tx_translate.specs.Meant.{meant_of, IsOwnFault}
 
--- where the only fault is want of memory
+-- where the only fault is lack of memory
 pub answers_text : {A B : Type 0} (G : Grammar A) (text : List ℕ) (spelled : A) (result : Result (String B) Fault) → G.IsGood spelled → meant_of text ≡ G.text spelled
     → IfOk result (λ answer. string_bytes answer ≡ G.answer spelled) → IfErr result (λ fault. fault ≡ NoMemory) → AnswersText G text result
 answers_text G text spelled (Ok answer) good same answers none = (spelled, good, same, answers)
