@@ -2,23 +2,16 @@
 //! What is wrong with a text, for people: a line for each line at fault, with its number, the
 //! column of the word at fault, and what was expected there.
 //!
-//! # Texts
-//!
-//! `check_text` first reads the text (`right.rt`). Where that fails, also for want of memory, it
+//! `check_text` first reads the text (`right.rt`). Where that fails, also for lack of memory, it
 //! looks for the fault at which the command of the text's kind finds it (`kinds.rt`, `places.rt`,
-//! `faults.rt`). It keeps no lines, and so takes no memory for that. Later lines that are at fault
-//! in their places follow.
+//! `faults.rt`). It keeps no lines, and so takes no memory for that. Later lines at fault in their
+//! places follow. `checks_for.rt` checks a text for one command, `session.rt` a line of a session.
+//! A fault in a text of version 3 is reported of the line that means it (`own.rt`), in the words
+//! of version 3 (`third.rt`).
 //!
-//! A text can be checked for one command (`checks_for.rt`), and a line of a session alone
-//! (`session.rt`). A fault in a text of version 3 is reported of the line that means it (`own.rt`),
-//! in the words of version 3 (`third.rt`).
-//!
-//! # Lines
-//!
-//! `diagnose/` finds the `Trouble` of a line. It asks the readers of tx_lines about each word, so
-//! that nothing passes that the grammar refuses. `sentences.rt` words it; `forms.rt` has each
-//! call's arguments, `near.rt` the name nearest to a mistyped one, `habits.rt` names from
-//! elsewhere. `placed.rt` looks again whether a sentence's word is at its column.
+//! `diagnose/` finds the `Trouble` of a line by the readers of tx_lines, so that nothing passes
+//! that the grammar refuses. `sentences.rt` words it, with each call's arguments (`forms.rt`), the
+//! name nearest to a mistyped one (`near.rt`) and names from elsewhere (`habits.rt`).
 
 mod checks;
 mod checks_for;

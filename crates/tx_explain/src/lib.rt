@@ -1,11 +1,9 @@
-//! What the words of the program mean, for people: refusals, faults, errors, replies, calls, steps,
-//! the debugger's commands, and what states and texts are made of.
+//! What the words of the program mean, for people: refusals, faults, errors, replies, calls,
+//! steps, the debugger's commands, and what states and texts are made of.
 //!
-//! `explain` answers a word, `listing` has all words in groups, `session_page` has what a session
-//! can be asked, and `nearest` finds the word that one was meant for. `topics/` has a table for
-//! each group, with the pages; `topic.rt` says what a topic is. `specs/Table.antt` says again which
-//! words there are, and each promise goes by that. `tests/texts/explained` compares the pages with the
-//! documents.
+//! `topics/` has a table for each group of words, with the pages. `specs/Table.antt` says again
+//! which words there are, and each promise goes by that. `tests/texts/explained` compares the
+//! pages with the documents.
 #![tactic(auto)]
 
 mod find;

@@ -1,39 +1,26 @@
 #![tactic(auto)]
 //! One history of steps, walked both ways.
 //!
-//! # The session
-//!
 //! `Session` is a machine with all steps that it accepted: an `Entry` has step, worker and reply,
-//! and beside it is what leads over it (`Crossings`). No other state is kept, and nothing is
-//! replayed from the start: a walk pays for the entries between.
+//! and beside it is what leads over it (`Crossings`). Nothing is replayed from the start: a walk
+//! pays for the entries between. Its invariant (`IsJournal`): the journal is lawful from the
+//! booted state, and from the machine's content each inverse leads back to what has the view of
+//! one entry fewer (`WalksBack`). So where `forward` makes a step anew, its answer is the entry's
+//! reply.
 //!
-//! Its invariant (`IsJournal`): the journal is lawful from the booted state, and from the machine's
-//! content each inverse leads back to what has the view of one entry fewer (`WalksBack`).
-//!
-//! - `back` leaves what makes the step again, if there is room for its changes (`reserve_forward`
-//!   makes it). `forward` makes it from there by exchange, else by its step, whose answer is the
-//!   entry's reply since the journal is lawful.
-//! - `moved`: `Retrace` makes the steps up to the commit once more and notes what each is; one walk
-//!   back over the notes parts them.
-//! - `cut` counts anew what is live; there is room, since each entry that goes ended at most one
-//!   transaction (`Cut.antt`).
-//! - `first_touch`: the transaction's newest step whose inverse has not reserved the object.
-//! - `put_state` prints live transactions in one pass over the marks and one over the starters;
-//!   `put_piece` prints only one `Piece`.
-//!
-//! # Room
+//! `cut` counts anew what is live; there is room, since each entry that goes ended at most one
+//! transaction (`Cut.antt`). `put_state` prints live transactions in one pass over the marks and
+//! one over the starters.
 //!
 //! An entry's place is reserved before its step, or for many by `reserve`: a list that grows as it
 //! needs would have room for twice its entries, and while it moves, for both. A transaction that
-//! begins takes one place more, for its abort, so an abort needs no memory. `Journal` counts live
-//! transactions for that, at least as many as there are (`HasRoom`), by whether the step's starter
-//! was live before and is after (`After.antt`, `Lives.antt`).
+//! begins takes one place more, so its abort needs no memory. For that `Journal` counts live
+//! transactions, at least as many as there are (`HasRoom`), by whether the step's starter was live
+//! before and is after (`After.antt`, `Lives.antt`).
 //!
-//! # Retrace
-//!
-//! A content of tx_content that makes a history's steps again, from boot. `next` answers a step's
-//! `Note`: its transaction's starter, and whether the step begins it, commits it, or shows its
-//! moment. What a commit posts is read from the outbox before it is made.
+//! `Retrace` is a content of tx_content that makes a history's steps again, from boot. `next`
+//! answers a step's `Note`: its transaction's starter, and whether the step begins it, commits it,
+//! or shows its moment. What a commit posts is read from the outbox before it is made.
 
 mod crossings;
 mod cuts;

@@ -2,22 +2,14 @@
 //! The lines of texts: reads schedules, schedules with commands and programs, and prints words,
 //! numbers, sets and steps. It knows the grammar, and nothing of a machine.
 //!
-//! # Tables and ends
+//! `calls.rt` is the table of calls. Texts come from a `Source` and go to a `Sink`, whose
+//! contracts name the bytes and count interruptions and failures.
 //!
-//! `calls.rt` has a row for each call: its name, how it is printed, and where its numbers are.
-//! Texts come from a `Source` and go to a `Sink`; their contracts name the bytes, and count
-//! interruptions and failures. `OverRead` and `OverWrite` are such ends over the standard
-//! library's.
-//!
-//! # Reading
-//!
-//! The calls that schedules have most are known by the front of their text. Other calls go by their
-//! first word: each group reads its own names, and hands others on.
-//!
-//! A program is read line by line and then linked, which makes points of labels. An instruction is
-//! read as a call of a schedule (`read_call`), with `0` in place of its slots and labels
-//! (`read/spellings.rt`); then its spellings are judged. So calls have one reader. `filling.rt`
-//! makes the call that a process makes by it.
+//! The most frequent calls are known by the front of their text, others by their first word: each
+//! group reads its own names, and hands others on. A program is read line by line and then linked,
+//! which makes points of labels. So that calls have one reader, an instruction is read as a call
+//! of a schedule (`read_call`), with `0` in place of its slots and labels (`read/spellings.rt`);
+//! then its spellings are judged. `filling.rt` makes the call that a process makes by it.
 
 mod calls;
 mod ends;

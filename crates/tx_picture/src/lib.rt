@@ -1,17 +1,16 @@
 #![tactic(auto)]
 //! A picture of a schedule, in SVG.
 //!
-//! `picture` reads a schedule from one end and writes its picture to the other; `picture_text`
-//! answers a text. `walk` makes the steps and notes in a `Drawing` what to draw: each step with its
-//! answer (`Row`), where a process runs or is a member (`Span`), which read took bytes of which
-//! write (`Passage`), and who could end a wait (`waits`). `excerpts` leaves out what is before an
+//! `walk` makes the steps and notes in a `Drawing` what to draw: each step with its answer
+//! (`Row`), where a process runs or is a member (`Span`), which read took bytes of which write
+//! (`Passage`), and who could end a wait (`waits`). `excerpts` leaves out what is before an
 //! excerpt. `captions` has what the author wrote: lines, and names, each for one of the `lives` of
-//! a number, which forks begin.
+//! a number.
 //!
-//! `whole` writes the rest by a `Sheet`: `stretches`, `arrows` (`fans` where several meet at a
-//! mark), each step's mark and text (`steps`, `wording`), what leads to other columns (`ties`,
-//! `held`), and `heads` of columns. `columns` and `layout` place all this; `specs/WellFormed.antt`
-//! says when it is well formed.
+//! `whole` writes the rest by a `Sheet`: `stretches`, `arrows` (`fans` where several meet), each
+//! step's mark and text (`steps`, `wording`), what leads to other columns (`ties`, `held`), and
+//! `heads` of columns. `columns` and `layout` place all this; `specs/WellFormed.antt` says when it
+//! is well formed.
 
 mod arrows;
 mod births;

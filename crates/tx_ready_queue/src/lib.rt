@@ -1,9 +1,9 @@
-//! The ready queue: the numbers of the processes that may run, shared by a kernel's worker threads.
+//! The ready queue: the numbers of the processes that may run, shared by a kernel's worker
+//! threads.
 //!
 //! Each worker has a `Station`: it takes a number, gives that process a turn elsewhere, and puts
-//! the number back. The station counts both; its invariant is that the counts are those of what its
-//! pass put and took. `another` splits a station off, `merge` joins two. The one with all parts may
-//! `close` the queue: that empties it and makes the `Tally`.
+//! the number back. By its invariant it counts what its pass put and took. The station with all
+//! parts may `close` the queue.
 //!
 //! `ReadyQueue` is over `RuledArrayQueue` of `crossbeam_queue`. Its rule (`Balanced`): however the
 //! numbers are weighed, what all passes put is what all took and what the queue holds. Each call

@@ -1,14 +1,13 @@
 //! Answers schedules, and the commands that walk over them.
 //!
-//! `replay` reads a schedule from one end, makes its steps on a machine, and writes the replies and
-//! the state to the other. It takes no step back: each inverse replaces the one before. `debug`
-//! makes the steps in a `Session` (`made.rt`); `walk` does what a command says, and gives its
-//! `Response`, printed in a `Form`. `write_json` answers both kinds of texts by lines of JSON,
-//! `run_lines` a run.
+//! `replay` makes the steps of a schedule on a machine, and takes none back: each inverse replaces
+//! the one before. `debug` makes them in a `Session` (`made.rt`); `walk` does what a command says,
+//! and gives its `Response`, printed in a `Form`. `write_json` answers both kinds of texts by
+//! lines of JSON, `run_lines` a run.
 //!
-//! What a text of a kind spells, where it is at fault and what answers it is a `Grammar` of specs:
-//! `schedules` and `walks` are two, and one definition (`Answers`) says of both what is read and
-//! written.
+//! A `Grammar` of specs says what texts of a kind spell, where one is at fault and what answers
+//! it. `schedules` and `walks` are two, and one definition (`Answers`) says of both what is read
+//! and written.
 #![tactic(auto)]
 
 mod answered;

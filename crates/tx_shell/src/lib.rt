@@ -3,33 +3,24 @@
 //! next one is read.
 //!
 //! A session runs on a `Shell`: an `Interpreter`, which has a `Session` of tx_journal, the form of
-//! answers, the version of lines, the refused steps and the names of processes.
+//! answers, the version of lines, the refused steps and the names of processes. Lines come from a
+//! `Terminal`, a trait with one log of all that comes and goes, so that a contract says the order.
 //!
-//! # Lines
+//! A line that spells a step is read at once (tx_lines). Any other line of version 3 means what it
+//! means in a text (`meanings.rt`, over tx_translate); then it is read as a step, else as what a
+//! session can be asked.
 //!
-//! `talk` reads the lines of a `Terminal`, a trait with one log of all that comes and goes, so that
-//! its contract says the order.
+//! `trials.rt` prints only the pieces that a step may change. `changes.rt`, `owners.rt` and
+//! `held.rt` find which step changed a piece, what is reserved, and who has a pipe open.
+//! `reasons.rt` finds why a step would be refused: what is in its way (`blockers.rt`,
+//! `signals.rt`), what it waits for, and who could end that (`waits.rt`, `holders.rt`,
+//! `attempts.rt`).
 //!
-//! A line that spells a step means itself, and is read at once (tx_lines). Any other line of
-//! version 3 means what it means in a text (`meanings.rt`, over tx_translate); then it is read as a
-//! step, else as what a session can be asked (`asks.rt`).
-//!
-//! # Questions
-//!
-//! `trials.rt` prints only the pieces that a step may change. `comparing.rt` goes to two positions
-//! and back. `changes.rt`, `owners.rt` and `held.rt` find which step changed a piece, what is
-//! reserved, and who has a pipe open. `reasons.rt` finds why a step would be refused: what is in
-//! its way (`blockers.rt`, `signals.rt`), what it waits for, and who could end that (`waits.rt`,
-//! `holders.rt`, `attempts.rt`).
-//!
-//! # Answers
-//!
-//! What is asked for is done once, and has one `Answer`, printed in a `Form`. tx_script answers the
-//! debugger's commands. A step is answered without an `Answer` (`steps.rt`), and kept where it was
-//! refused. What is neither is reported as by a check (`tells.rt`).
-//!
-//! A refused growth leaves no step half done: a step whose answer could not be printed is taken
-//! back and dropped, so the history is the one before the line.
+//! What is asked for is done once, and has one `Answer`, printed in a `Form`. tx_script answers
+//! the debugger's commands. A step is answered without an `Answer` (`steps.rt`), and kept where it
+//! was refused. What is neither is reported as by a check. A refused growth leaves no step half
+//! done: a step whose answer could not be printed is taken back, so the history is the one before
+//! the line.
 
 mod answers;
 mod laws;

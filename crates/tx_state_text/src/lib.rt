@@ -2,10 +2,9 @@
 //! is proved beside the crates that make one.
 //!
 //! `put_procs`, `put_descs` and `put_pipes` append the parts of a state, `put_txn_lines` a live
-//! transaction, `put_reply` a reply, and `put_named_reply` one with its error name. Others append
-//! the lines of one thing (`pieces.rt`). Each kind of line has its function, and each list of lines
-//! one that goes over it. Words, numbers, signal sets and bytes are printed by tx_lines. `Links`
-//! finds the members of all live transactions in one pass over the marks.
+//! transaction, and `put_reply` a reply. Each kind of line has its function, and each list of
+//! lines one that goes over it. `Links` finds the members of all live transactions in one pass
+//! over the marks.
 #![tactic(auto)]
 
 mod descriptors;

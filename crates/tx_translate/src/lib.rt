@@ -1,11 +1,10 @@
 #![tactic(auto)]
 //! Texts as people write them, "version 3": the text of version 2 that one means.
 //!
-//! `plain_text` translates a text, and the readers of version 2 read the result. Each word of a
-//! line is appended as version 2 spells it, by its role in its call (`roles.rt`). What is wrong
-//! stays as it is, so that the reader refuses it in its line. A line that names a process means
-//! none (`names.rt`); `Written` has the names, and the steps as their author wrote them. A line
-//! alone means what it means after the header of a schedule (`single.rt`). A step that is spelled
+//! `plain_text` translates a text for the readers of version 2. Each word of a line is appended as
+//! version 2 spells it, by its role in its call (`roles.rt`). What is wrong stays as it is, so
+//! that the reader refuses it in its line. A line that names a process means none (`names.rt`);
+//! `Written` has the names, and the steps as their author wrote them. A step that is spelled
 //! nearly as in version 2 is read without making that line (`respelled.rt`).
 
 mod arguments;

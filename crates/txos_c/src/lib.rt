@@ -1,11 +1,9 @@
 //! The library for C: a text in, and its answer out, into the caller's buffer.
 //!
-//! Each function makes the answer as the program's command of that name does, and hands it out
-//! (tx_answers). Its status is 0 where the text could be read, 1 where it could not, which the
-//! answer reports, 2 where memory was refused, and 3 where the buffer is too small; the last two
-//! leave the buffer as it was. `include/txos.h` declares the functions, and says what a caller
-//! owes. A slice crosses as a pointer and a length, and the allocator as nothing. Nothing is kept
-//! between calls, so calls on several threads don't meet.
+//! Each function hands out the answer of the program's command of that name (tx_answers).
+//! `include/txos.h` declares the functions and their statuses, and says what a caller owes. A
+//! slice crosses as a pointer and a length, and the allocator as nothing. Nothing is kept between
+//! calls, so calls on several threads don't meet.
 #![tactic(auto)]
 
 ghost use Rattle.std.specs.Prelude.{◌≡◌};
