@@ -74,7 +74,7 @@ pub record Adds {A : Type 0} (spelling : A → List ℕ) (IsGood : A → Type 0)
   pub spelled : line ≡ spelling added
   pub good : IsGood added
 
--- the fault is one of the text, of which that is so, or want of memory
+-- the fault is one of the text, of which that is so, or lack of memory
 abbrev pub FaultsBy : (Fault → Type 0) → Fault → Type 0
 FaultsBy Is (NotALine line) = Is (NotALine line)
 FaultsBy Is (NoLabel line) = Is (NoLabel line)

@@ -14,8 +14,9 @@ pub struct Numbers<'a> {
 }
 
 impl Instruction {
-    /// The call that the instruction makes in a process whose slots hold these numbers. It takes no
-    /// memory. The numbers of a new child, and of a new pipe and its descriptions, stay as they are.
+    /// The call that the instruction makes in a process whose slots hold these numbers. It takes
+    /// no memory. The numbers of a new child, and of a new pipe and its descriptions, stay as they
+    /// are.
     pub fn filled(&self, slots: &[i64; 8]) -> Call
         ensures call { result ≡ filled slots.now self.now }
         ensures arguments { arguments_of result ≡ filled_arguments slots.now self.now }

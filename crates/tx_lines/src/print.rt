@@ -1,5 +1,5 @@
-//! Prints words, numbers and bytes, lists and sets of them, and the lines of schedules: the counterpart
-//! of what reads them.
+//! Prints words, numbers and bytes, lists and sets of them, and the lines of schedules: the
+//! counterpart of what reads them.
 
 pub mod arguments;
 pub mod bytes;

@@ -16,8 +16,8 @@ use std::alloc::Global;
 use tx_journal::Session;
 use tx_lines::{Command, Fault, Walk};
 
-/// What the commands answer in turn, in that form, once the steps of the schedule are made. The only
-/// fault is `NoMemory`.
+/// What the commands answer in turn, in that form, once the steps of the schedule are made. The
+/// only fault is `NoMemory`.
 pub fn answer_walk(alloc: Global, form: Form, walk: &Walk) -> Result<String, Fault>
     requires { FitsHeader walk.now.schedule.header }
     ensures text { IfOk result (λ text. string_bytes text

@@ -17,8 +17,8 @@ use tx_lines::{Fault, Schedule};
 /// The worker that makes the steps of a schedule, and of a session.
 pub const WORKER: u16 = 1;
 
-/// A session in which the steps of a schedule are made, with room to walk over them. The only fault is
-/// `NoMemory`.
+/// A session in which the steps of a schedule are made, with room to walk over them. The only
+/// fault is `NoMemory`.
 pub fn walked(alloc: Global, schedule: &Schedule) -> Result<Session, Fault>
     requires { FitsHeader schedule.now.header }
     ensures made { IfOk result (IsMade schedule.now.header schedule.now.steps.items) }
@@ -27,7 +27,7 @@ pub fn walked(alloc: Global, schedule: &Schedule) -> Result<Session, Fault>
     let mut session = Session::boot_by(alloc, schedule.header)?;
     session.reserve(schedule.steps.len())?;
     make_steps(alloc, &mut session, schedule.steps.as_slice())?;
-    // Where it is refused, a walk forward makes each step anew.
+    // Where it is refused, a walk forward makes each step again.
     let _room = session.reserve_forward(0);
     Ok(session)
 }

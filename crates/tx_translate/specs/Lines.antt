@@ -49,7 +49,7 @@ abbrev pub short_or : List ℕ → Option (List ℕ) → Option (List ℕ)
 short_or line None = None
 short_or line (Some plain) = if nat_lt 512 (length plain) then Some line else Some plain
 
--- the line that a line means; nothing where it has no word or names a process. One that is too long stays as it is: so it is too long for whoever reads the plain text
+-- the line that a line means; nothing where it has no word or names a process. One that is too long stays as it is: so it is too long for the reader of the plain text
 abbrev pub plain_line : Stage → List ℕ → Option (List ℕ)
 plain_line stage line = if nat_lt 512 (length line) then Some line else short_or line (plain_of_words stage (words_in line))
 

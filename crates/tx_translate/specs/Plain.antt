@@ -13,7 +13,7 @@ abbrev pub begins_with : List ℕ → List (List ℕ) → Bool
 begins_with word [] = false
 begins_with word (first ∷ others) = bytes_eq first word
 
--- whether the words of a line are those of a header of version 3; where it has none, it is asked of the lines after it
+-- whether the words of a line are those of a header of version 3; where it has none, the lines after it decide
 abbrev pub is_header_or : Bool → List (List ℕ) → Bool
 is_header_or later [] = later
 is_header_or later (first ∷ others) = bytes_eq first (codes "txos") && begins_with (codes "3") others

@@ -1,4 +1,4 @@
--- What the author of a schedule of version 3 wrote beside what it means: the lines of its steps, and the names of processes.
+-- What the author of a schedule of version 3 wrote besides what it means: the lines of its steps, and the names of processes.
 use Rattle.std.specs.Prelude.{ℕ, ◌-◌, List, [], ◌∷◌, ◌++◌, fold, length, map, Option, Some, None, if◌then◌else◌}
 use Rattle.tx_translate.specs.Names.{naming_of}
 use Rattle.tx_translate.specs.OwnLines.{own_lines}

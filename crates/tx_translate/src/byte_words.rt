@@ -10,8 +10,8 @@ use crate::room::{Full, Room, put, put_byte};
 use crate::spellings::is;
 use crate::strings::meant;
 
-/// Appends a word with lower-case hex digits for its bytes, or as it is where it spells none. After
-/// an error the room may have some of them.
+/// Appends a word with lower-case hex digits for its bytes, or as it is where it spells none.
+/// After an error the room may have some of them.
 pub fn put_bytes(room: &mut Room, word: &[u8]) -> Result<(), Full>
     ensures put { OnOk result (room.new.items ≡ room.old.items ++ plain_bytes word.now) }
     ensures full { OnErr result (IsOver (room.old.items ++ plain_bytes word.now)) }

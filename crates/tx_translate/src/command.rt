@@ -6,8 +6,8 @@ use crate::meant::Meant;
 use std::alloc::Global;
 use tx_lines::{Fault, Sink, Source, read_whole, write_whole};
 
-/// Reads a text to its end, and writes the text of the first two versions that it means: itself, where it
-/// is none of version 3.
+/// Reads a text to its end, and writes the text of the first two versions that it means: itself,
+/// where it is none of version 3.
 ///
 /// `TooLong` at line 0 where the text has more than 1,048,576 bytes, and `Reader` and `NoMemory`:
 /// nothing is written then. `Writer`: only a front of it is written then.

@@ -15,9 +15,9 @@ use tx_lines::{Header, LINES, Schedule, TextKind, Version, first_header};
 /// How many bytes the line of a step has at least, with its end, as `1 map 0`.
 const STEP_BYTES: usize = 8;
 
-/// The schedule that the first lines of a text mean, and the lines after them: the header, and the steps
-/// up to the first line that means none, or that a schedule has no room for. Nothing where the text has
-/// no header of a schedule.
+/// The schedule that the first lines of a text mean, and the lines after them: the header, and the
+/// steps up to the first line that means none, or that a schedule has no room for. Nothing where
+/// the text has no header of a schedule.
 pub fn begun_schedule(
     alloc: Global,
     text: &[u8],
@@ -67,8 +67,8 @@ fn header_of(alloc: Global, kind: TextKind, line: OwnLine<'_>) -> Result<Option<
     }
 }
 
-/// The steps of that version that the first lines mean, up to the first line that means none, or that a
-/// schedule has no room for; and the lines from that one on.
+/// The steps of that version that the first lines mean, up to the first line that means none, or
+/// that a schedule has no room for; and the lines from that one on.
 fn first_steps<'a>(
     alloc: Global,
     version: Version,

@@ -95,7 +95,8 @@ pub fn plain_text(alloc: Global, text: &[u8]) -> Result<Option<Plain>, NoMemory>
     Ok(Some(translated(alloc, text)?))
 }
 
-/// The lines of version 2 that the lines of a text mean. The first of these with a word is a header.
+/// The lines of version 2 that the lines of a text mean. The first of these with a word is a
+/// header.
 fn translated(alloc: Global, text: &[u8]) -> Result<Plain, NoMemory>
     ensures { IfOk result (IsPlainOf text.now) }
 {

@@ -19,9 +19,9 @@ use tx_lines::{
     push_line, read_program_text, read_whole,
 };
 
-/// Reads the text of a program of any version to its end: the program, or why there is none. A text of
-/// more than 1,048,576 bytes is `TooLong` at line 0. A failure of the source, and its 1,001st
-/// interruption, is `Reader`.
+/// Reads the text of a program of any version to its end: the program, or why there is none. A
+/// text of more than 1,048,576 bytes is `TooLong` at line 0. A failure of the source, and its
+/// 1,001st interruption, is `Reader`.
 pub fn read_program<S: Source>(alloc: Global, source: &mut S) -> Result<Program, Fault>
     requires { IsFresh (S.counts source.old) }
     ensures { MeansProgramFrom (S.left source.old) (S.counts source.old) result
@@ -31,8 +31,8 @@ pub fn read_program<S: Source>(alloc: Global, source: &mut S) -> Result<Program,
     meant_program(alloc, text.as_slice())
 }
 
-/// The program that a text means, or the fault of the text. A text of version 3 is read line by line;
-/// where it is at fault, what it means is made as a text, in which the fault is found.
+/// The program that a text means, or the fault of the text. A text of version 3 is read line by
+/// line; where it is at fault, what it means is made as a text, in which the fault is found.
 fn meant_program(alloc: Global, text: &[u8]) -> Result<Program, Fault>
     ensures { MeansProgramOf text.now result }
 {
@@ -69,8 +69,8 @@ pub fn program_in(alloc: Global, text: &[u8]) -> Result<Option<Program>, NoMemor
     }
 }
 
-/// The lines of a program of that version that lines mean, and their labels. Nothing where one means
-/// none, or there are too many.
+/// The lines of a program of that version that lines mean, and their labels. Nothing where one
+/// means none, or there are too many.
 fn lines_in(
     alloc: Global,
     version: Version,

@@ -55,7 +55,8 @@ pub fn read_respelled(version: Version, line: &[u8], room: &mut Room, step: &mut
     }
 }
 
-/// The same where the word that begins at that byte is the last, and a string or the name of a signal.
+/// The same where the word that begins at that byte is the last, and a string or the name of a
+/// signal.
 fn read_last_word(
     version: Version,
     line: &[u8],
@@ -122,8 +123,9 @@ fn put_front(room: &mut Room, front: &[u8]) -> Result<(), Full>
     put(room, LAST)
 }
 
-/// The step with what a word means in place of its last argument: in a store a string, in a kill or a
-/// delivery the name of a signal. Nothing where the word does not mean that, or for another step.
+/// The step with what a word means in place of its last argument: in a store a string, in a kill
+/// or a delivery the name of a signal. Nothing where the word does not mean that, or for another
+/// step.
 fn with_last(step: &Step, word: &[u8]) -> Option<Step>
     ensures { IfSome result (IsRespelled word.now step.now) }
 {

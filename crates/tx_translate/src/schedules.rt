@@ -7,8 +7,8 @@ use crate::texts::{Text, read_text};
 use std::alloc::Global;
 use tx_lines::{Fault, Schedule, read_schedule as read_second};
 
-/// The schedule that a text means, or the fault of the text. A text of version 3 is read line by line;
-/// where it is at fault, what it means is made as a text, in which the fault is found.
+/// The schedule that a text means, or the fault of the text. A text of version 3 is read line by
+/// line; where it is at fault, what it means is made as a text, in which the fault is found.
 pub fn read_schedule(alloc: Global, text: &[u8]) -> Result<Schedule, Fault>
     ensures { MeansScheduleOf text.now result }
 {

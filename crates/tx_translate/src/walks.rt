@@ -13,8 +13,9 @@ use crate::texts::{Text, read_text};
 use std::alloc::{AllocError, Global};
 use tx_lines::{Command, Fault, LINES, Version, Walk, read_command, read_walk as read_second};
 
-/// The schedule and the commands that a text means, or the fault of the text. A text of version 3 is
-/// read line by line; where it is at fault, what it means is made as a text, in which the fault is found.
+/// The schedule and the commands that a text means, or the fault of the text. A text of version 3
+/// is read line by line; where it is at fault, what it means is made as a text, in which the fault
+/// is found.
 pub fn read_walk(alloc: Global, text: &[u8]) -> Result<Walk, Fault>
     ensures { MeansWalkOf text.now result }
 {
@@ -30,8 +31,8 @@ pub fn read_walk(alloc: Global, text: &[u8]) -> Result<Walk, Fault>
     }
 }
 
-/// The commands of that version that lines mean after the one before commands. Nothing where the first
-/// is not that one, one of the others means no command, or there are too many.
+/// The commands of that version that lines mean after the one before commands. Nothing where the
+/// first is not that one, one of the others means no command, or there are too many.
 pub fn commands_after(
     alloc: Global,
     version: Version,
@@ -49,7 +50,8 @@ pub fn commands_after(
     }
 }
 
-/// The commands of that version that lines mean. Nothing where one means none, or there are too many.
+/// The commands of that version that lines mean. Nothing where one means none, or there are too
+/// many.
 fn commands_in(
     alloc: Global,
     version: Version,

@@ -1,5 +1,5 @@
-//! What the author of a schedule wrote beside what it means: the lines of its steps, and the names of
-//! processes.
+//! What the author of a schedule wrote besides what it means: the lines of its steps, and the
+//! names of processes.
 ghost use Rattle.std.specs.Prelude.{◌≡◌, IfOk, OnOk, fold};
 ghost use Rattle.tx_translate.specs.OwnLines.{own_lines};
 ghost use Rattle.tx_translate.specs.Written.{noted, notes_as, notes_of};
@@ -19,8 +19,8 @@ pub struct Named<'a> {
     pub naming: Naming<'a>,
 }
 
-/// What the author of a schedule wrote. Of a text of the first two versions, which means itself, it has
-/// nothing.
+/// What the author of a schedule wrote. Of a text of the first two versions, which means itself,
+/// it has nothing.
 #[derive(Drop)]
 pub struct Written<'a> {
     /// The header, and the line of each step.

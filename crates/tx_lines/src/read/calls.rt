@@ -145,7 +145,8 @@ fn longest_call(version: Version, text: &[u8], call: &mut Call) -> bool
     other_call(version, text, call)
 }
 
-/// The arguments of a `sigaction`, where the text begins as one. In two parts: each is compared at once.
+/// The arguments of a `sigaction`, where the text begins as one. In two parts: each is compared at
+/// once.
 fn after_sigaction(text: &[u8]) -> Option<&[u8]>
     ensures { IfSome result (λ rest. text.now ≡ codes "sigaction " ++ rest.now) }
 {
@@ -158,7 +159,8 @@ fn after_sigaction(text: &[u8]) -> Option<&[u8]>
     }
 }
 
-/// The arguments of a `console_write`, where the text begins as one. In two parts, as `after_sigaction`.
+/// The arguments of a `console_write`, where the text begins as one. In two parts, as
+/// `after_sigaction`.
 fn after_console_write(text: &[u8]) -> Option<&[u8]>
     ensures { IfSome result (λ rest. text.now ≡ codes "console_write " ++ rest.now) }
 {

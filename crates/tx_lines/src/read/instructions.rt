@@ -17,7 +17,8 @@ use crate::read::spellings::put_plain;
 use arrayvec::ArrayVec;
 use tx_base::{Call, DescNo, Pid, PipeNo};
 
-/// The instruction that a line of a program of that version spells. Nothing where it is another line.
+/// The instruction that a line of a program of that version spells. Nothing where it is another
+/// line.
 pub fn read_instruction(version: Version, line: &[u8]) -> Option<Instruction>
     requires { length line.now ≤ 512 }
     ensures found { IfSome result (λ i. line.now ≡ instruction_text i) }

@@ -26,11 +26,11 @@ pub const LABELS: usize = 256;
 /// The number of the first line after the header.
 pub const FIRST_LINE: u64 = 2;
 
-/// The lines of a program of that version after its header, and their labels in the order met, each
-/// with the number of the instruction after it. The first line at fault decides: `TooLong` where it
-/// has more than 512 bytes, or is an instruction after 1,024 or a label after 256; and else
-/// `NotALine` where it has no end, or is none of a program's, or a label of a name that was met
-/// before. A refused growth is `NoMemory`.
+/// The lines of a program of that version after its header, and their labels in the order met,
+/// each with the number of the instruction after it. The first line at fault decides: `TooLong`
+/// where it has more than 512 bytes, or is an instruction after 1,024 or a label after 256; and
+/// else `NotALine` where it has no end, or is none of a program's, or a label of a name that was
+/// met before. A refused growth is `NoMemory`.
 pub fn read_lines(
     alloc: Global,
     version: Version,

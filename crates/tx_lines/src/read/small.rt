@@ -1,4 +1,5 @@
-//! The numbers of a text that have a narrower range: those of processes and signals, and positions.
+//! The numbers of a text that have a narrower range: those of processes and signals, and
+//! positions.
 ghost use Rattle.std.specs.Prelude.{◌≡◌, ◌<◌, ◌^◌, ℕ, IfSome, Some};
 ghost use Rattle.std.specs.Fmt.{decimal};
 ghost use Rattle.tx_base.specs.declared.names.Pid.{Pid};

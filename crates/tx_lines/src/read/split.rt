@@ -9,7 +9,8 @@ use crate::read::leading::split_unsigned;
 use crate::read::numbers::number;
 use crate::read::search::find;
 
-/// The text before the first byte of that kind, and the text after it. Nothing where there is none.
+/// The text before the first byte of that kind, and the text after it. Nothing where there is
+/// none.
 pub fn split_at(mark: u8, text: &[u8]) -> Option<(&[u8], &[u8])>
     ensures { option_map (λ r. (r.0.now, r.1.now)) result ≡ parts_at mark text.now }
 {

@@ -1,4 +1,5 @@
-//! Reads the text of a debugger: the lines of a schedule, the line `debug`, and the lines of commands.
+//! Reads the text of a debugger: the lines of a schedule, the line `debug`, and the lines of
+//! commands.
 ghost use Rattle.std.specs.Prelude.{◌≡◌, ◌≢◌, ◌+◌, ◌<◌, ◌≤◌, ◌∷◌, ◌↔◌, codes, IfErr, IfOk, IsTrue, MatchResult, length};
 ghost use Rattle.tx_lines.specs.Lines.{step_text};
 ghost use Rattle.tx_lines.specs.Schedule.{lines_of, AreSteps, FaultsAmong, FaultsBy, IsLine};

@@ -11,9 +11,9 @@ use tx_journal::{Entry, Session};
 use tx_json::entry_answer;
 use tx_lines::{Fault, put, put_step};
 
-/// What a session holds of a run, a line of JSON each: every entry with its number, its worker, its step
-/// and its reply, and then the state at the position, as a shell answers `state`. The only fault is
-/// `NoMemory`.
+/// What a session holds of a run, a line of JSON each: every entry with its number, its worker,
+/// its step and its reply, and then the state at the position, as a shell answers `state`. The
+/// only fault is `NoMemory`.
 pub fn run_lines(alloc: Global, session: &Session) -> Result<String, Fault>
     ensures text { IfOk result (λ text. string_bytes text ≡ text_of (run_lines session.now)) }
     ensures fault { IfErr result (λ fault. fault ≡ NoMemory) }

@@ -16,8 +16,8 @@ use tx_check::{Kind, kind_of};
 use tx_lines::{Fault, Sink, Source, read_whole, write_whole};
 use tx_translate::{MeantLines, read_schedule, read_walk};
 
-/// Reads a schedule, or one with commands, to its end, and writes what `json_text` answers. Nothing is
-/// written where the fault is another one than `Writer`.
+/// Reads a schedule, or one with commands, to its end, and writes what `json_text` answers.
+/// Nothing is written where the fault is another one than `Writer`.
 pub fn write_json<S: Source, W: Sink>(
     alloc: Global,
     source: &mut S,
