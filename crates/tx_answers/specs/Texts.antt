@@ -1,6 +1,6 @@
 -- What whole texts are answered: as by the program's commands.
 use Rattle.std.specs.Prelude.{◌≡◌, ◌≢◌, ◌⊎◌, ℕ, ◌<◌, ◌≤◌, List, [], Ok, length, string_bytes}
-use Rattle.tx_check.specs.Told.{IsToldOf}
+use Rattle.tx_check.specs.Diagnostics.{IsReportOf}
 use Rattle.tx_lines.specs.Schedule.{FaultsBy}
 use Rattle.tx_lines.specs.declared.faults.Fault.{Fault}
 use Rattle.tx_lines.specs.declared.faults.Fault.TheVariants.{TooLong}
@@ -27,7 +27,7 @@ IsAnswered G text NoMemory = Unit {0}
 
 -- what a check reports of a text: nothing where it can be read, else what is wrong with it
 abbrev pub IsChecked : List ℕ → Answer → Type 0
-IsChecked text (Read told) = (length text ≤ 1048576) × (string_bytes told ≡ []) × IsToldOf text (string_bytes told)
+IsChecked text (Read told) = (length text ≤ 1048576) × (string_bytes told ≡ []) × IsReportOf text (string_bytes told)
 IsChecked text (Unread told) = (IsTooLong text × TellsFault (TooLong 0) (Unread told))
-    ⊎ ((length text ≤ 1048576) × (string_bytes told ≢ []) × IsToldOf text (string_bytes told))
+    ⊎ ((length text ≤ 1048576) × (string_bytes told ≢ []) × IsReportOf text (string_bytes told))
 IsChecked text NoMemory = Unit {0}

@@ -2,7 +2,7 @@
 use Rattle.std.proofs.Common.{◌≡◌, ℕ, suc, Bool, true, false, not, nat_eq, ◌⊎◌, List, [], ◌∷◌, ◌++◌, Some, map, refl, ap, sym, ◌∙◌, inl, inr, arith, append_assoc, All}
 use Rattle.std.specs.List.{list_all}
 use Rattle.tx_check.proofs.InLine.{both_true}
-use Rattle.tx_check.specs.Told.{is_no_end, IsInLine}
+use Rattle.tx_check.specs.Diagnostics.{is_no_end, IsInLine}
 use Rattle.tx_lines.specs.Schedule.{after_line, first_line, lines_of}
 
 -- lines, each with its end
@@ -123,5 +123,5 @@ all_at P [] x after all = all 0 x (omega arith)
 all_at P (first ∷ before) x after all = all_at P before x after (λ k d below. all (suc k) d (omega (arith, below)))
 
 pub all_each : {A : Type 0} (P : A → Type 0) (spelling : A → List ℕ) (xs : List A) → ((x : A) → P x → IsInLine (spelling x)) → All P xs → AreLinesEach (map spelling xs)
-all_each P spelling [] stands all = tt
-all_each P spelling (x ∷ xs) stands all = (stands x (all 0 x (omega arith)), all_each P spelling xs stands (λ k d below. all (suc k) d (omega (arith, below))))
+all_each P spelling [] in_context all = tt
+all_each P spelling (x ∷ xs) in_context all = (in_context x (all 0 x (omega arith)), all_each P spelling xs in_context (λ k d below. all (suc k) d (omega (arith, below))))

@@ -1,6 +1,6 @@
 -- The kinds of sentences, and of what is told.
 use Rattle.std.proofs.Common.{◌≡◌, ◌≢◌, ◌∙◌, ◌≤◌, ℕ, List, true, Result, Ok, Err, IfOk, IfSome, inl, inr, ap, arith, length, refl, subst, sym}
-use Rattle.tx_check.specs.Speaking.{is_front, kind_of_line, kind_of_names, kind_of_what, line_sentence, no_label, word_of, FaultKind, IsFitting, IsOfKind, OfGrammar, OfLabel, OfLength, SpeaksBehind}
+use Rattle.tx_check.specs.Speaking.{is_front, kind_of_line, kind_of_names, kind_of_what, line_sentence, no_label, word_of, FaultKind, IsFitting, IsOfKind, OfGrammar, OfLabel, OfLength, SpeaksAfter}
 use Rattle.tx_check.specs.declared.trouble.LineTrouble.{LineTrouble}
 use Rattle.tx_check.specs.declared.trouble.LineTrouble.TheVariants.{TooLong, NoneOfTheGrammar}
 use Rattle.tx_check.specs.declared.trouble.Names.{Names}
@@ -29,16 +29,16 @@ line_kind trouble sentence says = by (kind_of_line trouble) refl
     by OfLength is = record { trouble = trouble; of = is; says = says }
 
 -- that of a name that is none of some
-of_other : (front word sentence : List ℕ) → is_front front ≡ true → front ≢ no_label → SpeaksBehind front word sentence → IsOfKind OfGrammar sentence
+of_other : (front word sentence : List ℕ) → is_front front ≡ true → front ≢ no_label → SpeaksAfter front word sentence → IsOfKind OfGrammar sentence
 of_other front word sentence known other speaks = inr (inr (record { front = front; word = word; known = known; other = other; speaks = speaks }))
 
-names_kind : (those : Names) (front word sentence : List ℕ) → is_front front ≡ true → (kind_of_names those ≡ OfLabel → front ≡ no_label) → (kind_of_names those ≡ OfGrammar → front ≢ no_label) → SpeaksBehind front word sentence
+names_kind : (those : Names) (front word sentence : List ℕ) → is_front front ≡ true → (kind_of_names those ≡ OfLabel → front ≡ no_label) → (kind_of_names those ≡ OfGrammar → front ≢ no_label) → SpeaksAfter front word sentence
     → IsOfKind (kind_of_names those) sentence
-names_kind (names.Labels text) front word sentence known label other speaks = (word, subst (λ (f : List ℕ). SpeaksBehind f word sentence) (label refl) speaks)
+names_kind (names.Labels text) front word sentence known label other speaks = (word, subst (λ (f : List ℕ). SpeaksAfter f word sentence) (label refl) speaks)
 names_kind _ front word sentence known label other speaks = of_other front word sentence known (other refl) speaks
 
 -- that of a trouble with a word
-pub word_kind : (what : What) (front word sentence : List ℕ) → is_front front ≡ true → (kind_of_what what ≡ OfLabel → front ≡ no_label) → (kind_of_what what ≡ OfGrammar → front ≢ no_label) → SpeaksBehind front word sentence
+pub word_kind : (what : What) (front word sentence : List ℕ) → is_front front ≡ true → (kind_of_what what ≡ OfLabel → front ≡ no_label) → (kind_of_what what ≡ OfGrammar → front ≢ no_label) → SpeaksAfter front word sentence
     → IfSome (word_of what) (λ said. IsOfKind (kind_of_what what) sentence)
 word_kind (whats.Line trouble) front word sentence known label other speaks = tt
 word_kind (whats.OddByte byte) front word sentence known label other speaks = tt

@@ -8,11 +8,11 @@ use Rattle.tx_check.proofs.Linked.{has_all, user_nowhere}
 use Rattle.tx_check.proofs.NextLines.{header_right}
 use Rattle.tx_check.proofs.ShortLines.{short_header, short_line}
 use Rattle.tx_check.proofs.Wronged.{none_there, second, too_many}
-use Rattle.tx_check.specs.Behind.{IsFaultAt, IsNoLineAt}
+use Rattle.tx_check.specs.AfterHeader.{IsFaultAt, IsNoLineAt}
 use Rattle.tx_check.specs.Kinds.{head_of, kind_of}
 use Rattle.tx_check.specs.Numbered.{after_lines, behind, behind_by, line_at}
 use Rattle.tx_check.specs.Reads.{Finds, IsAtFault}
-use Rattle.tx_check.specs.Stands.{stand_after, stand_behind, AtHeader, IsPlaceOf, StandsAt}
+use Rattle.tx_check.specs.Contexts.{context_after, next_context, AtHeader, IsPlaceAt, IsPlaceOf}
 use Rattle.tx_check.specs.Wrong.{has_end, IsFaultIn, IsNoLabelIn, IsNoLineIn, IsOneTooMany, IsTooManyAfter, IsWrongIn, NoEnd, Other, Second}
 use Rattle.tx_check.specs.declared.kinds.Kind.{Kind}
 use Rattle.tx_check.specs.declared.kinds.Kind.TheVariants as kinds
@@ -53,71 +53,71 @@ pub header_there : (kind : Kind) (text : List ℕ) (fault : Fault) → kind ≡ 
 header_there kind text fault same is = first_in text fault (subst (λ (k : Kind). FaultsAtHeader (head_of k) text fault) same is)
 
 -- behind it: the text stands at the first line there
-pub behind_is : (kind : TextKind) (text : List ℕ) (header : Header) (rest : List ℕ) → SpellsHeader kind text header rest → rest ≡ after_lines 1 text
-behind_is kind text header rest spells =
+pub after_is : (kind : TextKind) (text : List ℕ) (header : Header) (rest : List ℕ) → SpellsHeader kind text header rest → rest ≡ after_lines 1 text
+after_is kind text header rest spells =
     sym (ap behind spells.spelled ∙ ap behind_by (after_ended (header_text kind header) rest (short_header kind header spells.fits).in_line))
 
-pub stands_second : (kind : Kind) (text : List ℕ) (header : Header) (rest : List ℕ) (place : Place) → kind ≡ kind_of text → SpellsHeader (head_of kind) text header rest
+pub in_context_second : (kind : Kind) (text : List ℕ) (header : Header) (rest : List ℕ) (place : Place) → kind ≡ kind_of text → SpellsHeader (head_of kind) text header rest
     → place.version ≡ header.version
-    → ((line : List ℕ) → IsPlaceOf (stand_after (AtHeader (head_of kind)) line) place) → StandsAt text 2 place
-stands_second kind text header rest place is spells version stands = record {
+    → ((line : List ℕ) → IsPlaceOf (next_context (AtHeader (head_of kind)) line) place) → IsPlaceAt text 2 place
+in_context_second kind text header rest place is spells version in_context = record {
   version = inl (header, rest, subst (λ (k : Kind). SpellsHeader (head_of k) text header rest) is spells, version);
-  stands = subst (λ (k : Kind). IsPlaceOf (stand_after (AtHeader (head_of k)) (first_line text)) place) is (stands (first_line text));
+  in_context = subst (λ (k : Kind). IsPlaceOf (next_context (AtHeader (head_of k)) (first_line text)) place) is (in_context (first_line text));
 }
 
 -- the fault of the line at a place
 record IsLineOfText (text : List ℕ) (number : ℕ) (place : Place) (line : TextLine) : Type 0 where
-  stands : StandsAt text number place
+  in_context : IsPlaceAt text number place
   other : place.part ≢ parts.Link
   same : line.number ≡ number
   bytes : line.bytes.now ≡ line_at number text
   ended : line.is_ended ≡ has_end number text
 
 too_many_in : (text : List ℕ) (number : ℕ) (place : Place) (line : TextLine) → IsLineOfText text number place line
-    → IsOneTooMany (stand_behind (kind_of text) text (number - 1)) line.bytes.now → IsTooManyAfter text (number - 1)
+    → IsOneTooMany (context_after (kind_of text) text (number - 1)) line.bytes.now → IsTooManyAfter text (number - 1)
 too_many_in text number place line is many =
-    subst (λ (bytes : List ℕ). IsOneTooMany (stand_behind (kind_of text) text (number - 1)) bytes) is.bytes many
+    subst (λ (bytes : List ℕ). IsOneTooMany (context_after (kind_of text) text (number - 1)) bytes) is.bytes many
 
 wrong_at : (text : List ℕ) (number : ℕ) (place : Place) (line : TextLine) → IsLineOfText text number place line → IsNoLineAt text place line
-    → IsWrongIn place.version text line.number (stand_behind (kind_of text) text (number - 1)) line.bytes.now line.is_ended
+    → IsWrongIn place.version text line.number (context_after (kind_of text) text (number - 1)) line.bytes.now line.is_ended
 wrong_at text number place line is (inl none) = NoEnd none
 wrong_at text number place line is (inr (inl none)) =
-    Other (none_there place.version (stand_behind (kind_of text) text (number - 1)) place line.bytes.now is.stands.stands none)
+    Other (none_there place.version (context_after (kind_of text) text (number - 1)) place line.bytes.now is.in_context.in_context none)
 wrong_at text number place line is (inr (inr twice)) =
-    Second (second text line.number (stand_behind (kind_of text) text (number - 1)) place line.bytes.now is.stands.stands (inl twice.0) twice.1)
+    Second (second text line.number (context_after (kind_of text) text (number - 1)) place line.bytes.now is.in_context.in_context (inl twice.0) twice.1)
 
 wrong_in : (text : List ℕ) (number : ℕ) (place : Place) (line : TextLine) → IsLineOfText text number place line → IsNoLineAt text place line
-    → IsWrongIn place.version text number (stand_behind (kind_of text) text (number - 1)) (line_at number text) (has_end number text)
+    → IsWrongIn place.version text number (context_after (kind_of text) text (number - 1)) (line_at number text) (has_end number text)
 wrong_in text number place line is why =
-    let stand = stand_behind (kind_of text) text (number - 1) in
-    subst (λ (n : ℕ). IsWrongIn place.version text n stand (line_at number text) (has_end number text)) is.same
-    (subst (λ (ended : Bool). IsWrongIn place.version text line.number stand (line_at number text) ended) is.ended
-    (subst (λ (bytes : List ℕ). IsWrongIn place.version text line.number stand bytes line.is_ended) is.bytes (wrong_at text number place line is why)))
+    let context = context_after (kind_of text) text (number - 1) in
+    subst (λ (n : ℕ). IsWrongIn place.version text n context (line_at number text) (has_end number text)) is.same
+    (subst (λ (ended : Bool). IsWrongIn place.version text line.number context (line_at number text) ended) is.ended
+    (subst (λ (bytes : List ℕ). IsWrongIn place.version text line.number context bytes line.is_ended) is.bytes (wrong_at text number place line is why)))
 
 fault_in : (text : List ℕ) (number : ℕ) (place : Place) (line : TextLine) (fault : Fault) → IsLineOfText text number place line → IsFaultAt text place line fault → IsFaultIn text fault
 fault_in text number place line (TooLong found) is at =
-    let stand = stand_behind (kind_of text) text (number - 1) in
+    let context = context_after (kind_of text) text (number - 1) in
     subst (λ (n : ℕ). IsFaultIn text (TooLong n)) (sym is.same ∙ sym at.0) (elim at.1 [
       | inl long ↦ inl (omega (arith, long, ap length is.bytes))
-      | inr many ↦ inr (too_many_in text number place line is (too_many stand place line.bytes.now is.stands.stands many))
+      | inr many ↦ inr (too_many_in text number place line is (too_many context place line.bytes.now is.in_context.in_context many))
     ])
 fault_in text number place line (NotALine found) is at =
-    let stand = stand_behind (kind_of text) text (number - 1) in
+    let context = context_after (kind_of text) text (number - 1) in
     subst (IsNoLineIn text) (sym is.same ∙ sym at.0) (record {
       short = omega (arith, at.1, ap length is.bytes);
       room = λ many.
-          at.2 (many_there stand place line.bytes.now is.stands.stands is.other (subst (λ (bytes : List ℕ). IsOneTooMany stand bytes) (sym is.bytes) many));
+          at.2 (many_there context place line.bytes.now is.in_context.in_context is.other (subst (λ (bytes : List ℕ). IsOneTooMany context bytes) (sym is.bytes) many));
       version = place.version;
-      of_text = is.stands.version;
+      of_text = is.in_context.version;
       wrong = wrong_in text number place line is at.3;
     })
 fault_in text number place line _ is at = absurd at
 
-pub fault_there : (text left : List ℕ) (place : Place) (line : TextLine) (fault : Fault) → StandsAt text line.number place → place.part ≢ parts.Link → left ≡ after_lines (line.number - 1) text
+pub fault_there : (text left : List ℕ) (place : Place) (line : TextLine) (fault : Fault) → IsPlaceAt text line.number place → place.part ≢ parts.Link → left ≡ after_lines (line.number - 1) text
     → line.bytes.now ≡ first_line left → line.is_ended ≡ is_some (after_line left) → IsFaultAt text place line fault → IsFaultIn text fault
-fault_there text left place line fault stands other at bytes ended is =
+fault_there text left place line fault in_context other at bytes ended is =
     fault_in text line.number place line fault
-    (record { stands = stands; other = other; same = refl; bytes = bytes ∙ ap first_line at; ended = ended ∙ ap ended_in at }) is
+    (record { in_context = in_context; other = other; same = refl; bytes = bytes ∙ ap first_line at; ended = ended ∙ ap ended_in at }) is
 
 -- a label that is nowhere
 ended_at : (version : Version) (text : List ℕ) (before : List Line) (one : Line) (after : List Line) (number : ℕ) → HasLines version text (before ++ one ∷ after) []

@@ -4,7 +4,7 @@ use Rattle.std.proofs.lemmas.Bool.Decides.{eqb_tells}
 use Rattle.tx_check.specs.Numbered.{behind}
 use Rattle.tx_check.proofs.EndedLines.{first_ended}
 use Rattle.tx_check.proofs.Growing.{spelled_on}
-use Rattle.tx_check.proofs.NextLines.{some_behind}
+use Rattle.tx_check.proofs.NextLines.{some_after}
 use Rattle.tx_check.proofs.ShortLines.{short_header}
 use Rattle.tx_lines.specs.Lines.{header_text}
 use Rattle.tx_lines.specs.Schedule.{after_line, first_line, FaultsAtHeader, IsNoHeader, SpellsHeader}
@@ -42,7 +42,7 @@ header_wrong kind text head (NotALine line) is wrong =
       wrong.0,
       omega (arith, wrong.1, ap length same),
       elim wrong.2 [
-        | inl none ↦ absurd (some_behind head [] (ap after_line is ∙ after_again text []) none)
+        | inl none ↦ absurd (some_after head [] (ap after_line is ∙ after_again text []) none)
         | inr other ↦ inr (subst (IsNoHeader kind) same other)
       ],
     )

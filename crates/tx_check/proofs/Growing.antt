@@ -55,16 +55,16 @@ lines_last spelling xs x left rest parts =
     ∙ sym (lines_both spelling xs (x ∷ []) rest)
 
 -- lines are counted from either end
-pub behind_first : (count : ℕ) (text : List ℕ) → after_lines (suc count) text ≡ after_lines count (behind text)
-behind_first zero text = refl
-behind_first (suc count) text = ap behind (behind_first count text)
+pub past_first : (count : ℕ) (text : List ℕ) → after_lines (suc count) text ≡ after_lines count (behind text)
+past_first zero text = refl
+past_first (suc count) text = ap behind (past_first count text)
 
-pub all_behind : {A : Type 0} (P : A → Type 0) (x : A) (xs : List A) → All P (x ∷ xs) → All P xs
-all_behind P x xs all = λ k d below. all (suc k) d (omega (arith, below))
+pub all_after : {A : Type 0} (P : A → Type 0) (x : A) (xs : List A) → All P (x ∷ xs) → All P xs
+all_after P x xs all = λ k d below. all (suc k) d (omega (arith, below))
 
 -- behind the first of some lines
-pub next_behind : (version : Version) (one : Line) (lines : List Line) (left : List ℕ) → IsLineOf version one → behind (lines_of line_text (one ∷ lines) ++ left) ≡ lines_of line_text lines ++ left
-next_behind version one lines left good =
+pub next_after : (version : Version) (one : Line) (lines : List Line) (left : List ℕ) → IsLineOf version one → behind (lines_of line_text (one ∷ lines) ++ left) ≡ lines_of line_text lines ++ left
+next_after version one lines left good =
     ap behind (append_assoc (line_text one) (10 ∷ lines_of line_text lines) left)
     ∙ ap behind_by (after_ended (line_text one) (lines_of line_text lines ++ left) (short_line version one good).in_line)
 
@@ -77,18 +77,18 @@ first_of version one lines left good =
 pub line_among : (version : Version) (before : List Line) (one : Line) (after : List Line) (left : List ℕ) → All (IsLineOf version) (before ++ one ∷ after) → first_line (after_lines (length before) (lines_of line_text (before ++ one ∷ after) ++ left)) ≡ line_text one
 line_among version [] one after left fit = first_of version one after left (fit 0 one (omega arith))
 line_among version (x ∷ before) one after left fit =
-    ap first_line (behind_first (length before) (lines_of line_text (x ∷ (before ++ one ∷ after)) ++ left))
-    ∙ ap (λ (t : List ℕ). first_line (after_lines (length before) t)) (next_behind version x (before ++ one ∷ after) left (fit 0 x (omega arith)))
-    ∙ line_among version before one after left (all_behind (IsLineOf version) x (before ++ one ∷ after) fit)
+    ap first_line (past_first (length before) (lines_of line_text (x ∷ (before ++ one ∷ after)) ++ left))
+    ∙ ap (λ (t : List ℕ). first_line (after_lines (length before) t)) (next_after version x (before ++ one ∷ after) left (fit 0 x (omega arith)))
+    ∙ line_among version before one after left (all_after (IsLineOf version) x (before ++ one ∷ after) fit)
 
 -- what is left before one of them
 pub left_among : (version : Version) (before : List Line) (one : Line) (after : List Line) (left : List ℕ) → All (IsLineOf version) (before ++ one ∷ after)
     → after_lines (length before) (lines_of line_text (before ++ one ∷ after) ++ left) ≡ lines_of line_text (one ∷ after) ++ left
 left_among version [] one after left fit = refl
 left_among version (x ∷ before) one after left fit =
-    behind_first (length before) (lines_of line_text (x ∷ (before ++ one ∷ after)) ++ left)
-    ∙ ap (after_lines (length before)) (next_behind version x (before ++ one ∷ after) left (fit 0 x (omega arith)))
-    ∙ left_among version before one after left (all_behind (IsLineOf version) x (before ++ one ∷ after) fit)
+    past_first (length before) (lines_of line_text (x ∷ (before ++ one ∷ after)) ++ left)
+    ∙ ap (after_lines (length before)) (next_after version x (before ++ one ∷ after) left (fit 0 x (omega arith)))
+    ∙ left_among version before one after left (all_after (IsLineOf version) x (before ++ one ∷ after) fit)
 
 pub after_first : (version : Version) (one : Line) (lines : List Line) (left : List ℕ) → IsLineOf version one → after_line (lines_of line_text (one ∷ lines) ++ left) ≡ Some (lines_of line_text lines ++ left)
 after_first version one lines left good =
@@ -104,9 +104,9 @@ pub none_beyond : (version : Version) (lines : List Line) (count : ℕ) → All 
 none_beyond version [] count fit past = none_left count
 none_beyond version (one ∷ lines) zero fit past = absurd (past (omega arith))
 none_beyond version (one ∷ lines) (suc count) fit past =
-    behind_first count (lines_of line_text (one ∷ lines) ++ [])
-    ∙ ap (after_lines count) (next_behind version one lines [] (fit 0 one (omega arith)))
-    ∙ none_beyond version lines count (all_behind (IsLineOf version) one lines fit) (λ below. past (omega (arith, below)))
+    past_first count (lines_of line_text (one ∷ lines) ++ [])
+    ∙ ap (after_lines count) (next_after version one lines [] (fit 0 one (omega arith)))
+    ∙ none_beyond version lines count (all_after (IsLineOf version) one lines fit) (λ below. past (omega (arith, below)))
 
 -- whether anything is left
 pub some_left : (xs : List ℕ) → false ≡ (length xs == 0) → xs ≢ []

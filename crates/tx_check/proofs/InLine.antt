@@ -6,7 +6,7 @@ use Rattle.std.specs.Str.Parse.{AllDigits}
 use Rattle.std.proofs.lemmas.Bool.{both_ways, ne_eqb}
 use Rattle.std.proofs.lemmas.Fmt.{decimal_is_IsNumeral}
 use Rattle.std.proofs.lemmas.List.Folds.{list_all-append}
-use Rattle.tx_check.specs.Told.{is_no_end, IsInLine}
+use Rattle.tx_check.specs.Diagnostics.{is_no_end, IsInLine}
 
 -- some bytes more in the line
 pub in_line_more : (old more new : List ℕ) → IsInLine old → IsInLine more → new ≡ old ++ more → IsInLine new

@@ -2,10 +2,10 @@
 use Rattle.std.proofs.Common.{◌≡◌, ◌≢◌, ◌∙◌, ℕ, zero, suc, ◌+◌, ◌-◌, ◌<◌, ◌≤◌, Bool, true, false, if◌then◌else◌, List, [], ◌∷◌, ◌++◌, drop, get_or, length, map, inl, inr, refl, ap, arith, subst, sym}
 use Rattle.std.proofs.lemmas.Bool.{both_ways, cases_lt}
 use Rattle.std.proofs.lemmas.List.{drop_more}
-use Rattle.tx_check.proofs.Growing.{behind_first}
+use Rattle.tx_check.proofs.Growing.{past_first}
 use Rattle.tx_check.specs.Labels.{label_at, labels_in, with_label}
 use Rattle.tx_check.specs.Numbered.{after_lines, behind, line_at}
-use Rattle.tx_check.specs.Stands.{begins_label}
+use Rattle.tx_check.specs.Contexts.{begins_label}
 use Rattle.tx_check.specs.declared.labels.LabelLine.{LabelLine}
 use Rattle.tx_lines.specs.Programs.{label_front}
 use Rattle.tx_lines.specs.Schedule.{first_line}
@@ -29,7 +29,7 @@ labels_more (suc count) number text =
     let line = first_line (after_lines count (behind text)) in
     let later : List (ℕ × List ℕ) = labels_in count (number + 1) (behind text) in
     let last : number + 1 + count ≡ number + suc count = omega arith in
-    let same : line ≡ first_line (after_lines (suc count) text) = ap first_line (sym (behind_first count text)) in
+    let same : line ≡ first_line (after_lines (suc count) text) = ap first_line (sym (past_first count text)) in
     ap (λ (labels : List (ℕ × List ℕ)). if begins_label (first_line text) then (number, first_line text) ∷ labels else labels) (labels_more count (number + 1) (behind text))
     ∙ more_by (begins_label (first_line text)) number (number + 1 + count) (first_line text) line later
     ∙ ap (λ (n : ℕ). with_label n line (labels_in (suc count) number text)) last
@@ -131,16 +131,16 @@ next_known text all name known at other inside so =
     next_label text all name (get_or known at other).number (line_of (get_or known at other).line) (map label_at (drop (at + 1) known))
     (subst (λ (labels : List LabelLine). SoughtTo text all name (map label_at labels)) (drop_more known at other inside) so)
 
-nothing_behind : (known : List LabelLine) (at : ℕ) → length known ≤ at → drop at known ≡ []
-nothing_behind [] zero over = refl
-nothing_behind [] (suc at) over = refl
-nothing_behind (label ∷ known) zero over = absurd (omega (arith, over))
-nothing_behind (label ∷ known) (suc at) over = nothing_behind known at (omega (arith, over))
+nothing_after : (known : List LabelLine) (at : ℕ) → length known ≤ at → drop at known ≡ []
+nothing_after [] zero over = refl
+nothing_after [] (suc at) over = refl
+nothing_after (label ∷ known) zero over = absurd (omega (arith, over))
+nothing_after (label ∷ known) (suc at) over = nothing_after known at (omega (arith, over))
 
 pub no_known_left : (text : List ℕ) (all : ℕ) (name : List ℕ) (known : List LabelLine) (at : ℕ) → length known ≤ at → SoughtTo text all name (map label_at (drop at known)) →
     (k : ℕ) → k < all → first_line (after_lines k text) ≢ label_front ++ name
 no_known_left text all name known at over so =
-    no_label_left text all name (subst (λ (labels : List LabelLine). SoughtTo text all name (map label_at labels)) (nothing_behind known at over) so)
+    no_label_left text all name (subst (λ (labels : List LabelLine). SoughtTo text all name (map label_at labels)) (nothing_after known at over) so)
 
 -- no line before a label that comes next is that of the name
 pub first_named : (text : List ℕ) (all : ℕ) (name : List ℕ) (number : ℕ) (line : List ℕ) (labels : List (ℕ × List ℕ)) → IsNextLabel text all name number line labels →

@@ -8,7 +8,7 @@ use Rattle.std.specs.Fmt.{decimal}
 use Rattle.std.specs.List.{AllByRecursion, IsDistinct}
 use Rattle.std.specs.Map.{keys_of, lookup}
 use Rattle.tx_check.proofs.EndedLines.{after_ended, first_ended}
-use Rattle.tx_check.proofs.Growing.{behind_first, line_among, none_beyond}
+use Rattle.tx_check.proofs.Growing.{line_among, none_beyond, past_first}
 use Rattle.tx_check.proofs.NamedLabels.{no_label}
 use Rattle.tx_check.proofs.ShortLines.{short_header}
 use Rattle.tx_check.specs.Numbered.{after_lines, behind, behind_by, line_at}
@@ -52,7 +52,7 @@ first_is version text lines left has =
 
 pub later_is : (version : Version) (text : List ℕ) (lines : List Line) (left : List ℕ) (count : ℕ) → HasLines version text lines left → after_lines (suc count) text ≡ after_lines count (lines_of line_text lines ++ left)
 later_is version text lines left count has =
-    behind_first count text
+    past_first count text
     ∙ ap (λ (t : List ℕ). after_lines count (behind t)) has.spells.spelled
     ∙ ap (λ found. after_lines count (behind_by found)) (after_ended (header_text texts.Program has.header) (lines_of line_text lines ++ left) (short_header texts.Program has.header has.spells.fits).in_line)
 

@@ -9,14 +9,14 @@ use Rattle.tx_check.proofs.LineParts.{label_parts}
 use Rattle.tx_check.proofs.OwnLines.{lines_after}
 use Rattle.tx_check.proofs.SameHeaders.{same_header}
 use Rattle.tx_check.proofs.SoFar.{no_debug_line}
-use Rattle.tx_check.specs.Behind.{IsQuietAt, MayStand}
+use Rattle.tx_check.specs.AfterHeader.{IsAllowedAt, IsQuietAt}
 use Rattle.tx_check.specs.Kinds.{head_of, kind_of}
 use Rattle.tx_check.specs.Numbered.{after_lines}
 use Rattle.tx_check.specs.OwnLines.{IsLineAt, IsWrongAfter}
 use Rattle.tx_check.specs.Reads.{line_of, IsAtFault}
 use Rattle.tx_check.specs.Right.{IsRight, IsTooMany}
-use Rattle.tx_check.specs.Stands.{begins_label, counted, stand_after, stand_behind, AmongCommands, AmongLines, AmongSteps, AtHeader, IsPastAll, IsPlaceOf, IsVersionOf, Stand, StandsAt}
-use Rattle.tx_check.specs.Wrong.{has_end, IsNoneIn, IsOneTooMany, IsTooManyAfter, IsUnlinked, IsWrongBehind, IsWrongIn, IsWrongThere, NoEnd, Other, Second, TooLong, TooMany}
+use Rattle.tx_check.specs.Contexts.{begins_label, context_after, counted, next_context, AmongCommands, AmongLines, AmongSteps, AtHeader, Context, IsPastAll, IsPlaceAt, IsPlaceOf, IsVersionOf}
+use Rattle.tx_check.specs.Wrong.{has_end, IsNoneIn, IsOneTooMany, IsTooManyAfter, IsUnlinked, IsWrongAfterFault, IsWrongIn, IsWrongThere, NoEnd, Other, Second, TooLong, TooMany}
 use Rattle.tx_check.specs.declared.kinds.Kind.{Kind}
 use Rattle.tx_check.specs.declared.kinds.Kind.TheVariants as kinds
 use Rattle.tx_check.specs.declared.places.Part.{Part}
@@ -46,7 +46,7 @@ one_version kind text one other (inr first) (inr second) = first.1 ∙ sym secon
 more : (most count number : ℕ) → most ≤ 4096 → count ≡ counted number → most ≤ number → most ≤ count
 more most count number few is enough = omega (arith, few, is, enough)
 
-pub many_there : (stand : Stand) (place : Place) (line : List ℕ) → IsPlaceOf stand place → place.part ≢ parts.Link → IsOneTooMany stand line → IsTooMany place.part place.count place.labels line
+pub many_there : (context : Context) (place : Place) (line : List ℕ) → IsPlaceOf context place → place.part ≢ parts.Link → IsOneTooMany context line → IsTooMany place.part place.count place.labels line
 many_there (AtHeader kind) place line is other many = absurd many
 many_there (AmongSteps steps) place line is other many =
     subst (λ (part : Part). IsTooMany part place.count place.labels line) (sym is.0) (more 4096 place.count steps (omega arith) is.1 many.0, many.1)
@@ -59,7 +59,7 @@ many_there (AmongLines instructions labels) place line (inl is) other many =
     ])
 many_there (AmongLines instructions labels) place line (inr is) other many = absurd (other is)
 
-none_right : (version : Version) (stand : Stand) (place : Place) (line : List ℕ) → IsPlaceOf stand place → place.part ≢ parts.Link → IsRight place.part version line → IsNoneIn version stand line → ⊥
+none_right : (version : Version) (context : Context) (place : Place) (line : List ℕ) → IsPlaceOf context place → place.part ≢ parts.Link → IsRight place.part version line → IsNoneIn version context line → ⊥
 none_right version (AtHeader kind) place line is other right none = subst (λ (part : Part). IsRight part version line) is.0 right
 none_right version (AmongSteps steps) place line is other right none =
     let here = subst (λ (part : Part). IsRight part version line) is.0 right in
@@ -70,12 +70,12 @@ none_right version (AmongLines instructions labels) place line (inl is) other ri
     let here = subst (λ (part : Part). IsRight part version line) is.0 right in none here.one here.fits here.spelled
 none_right version (AmongLines instructions labels) place line (inr is) other right none = absurd (other is)
 
-pub not_wrong : (text : List ℕ) (stand : Stand) (place : Place) (line : TextLine) → IsPlaceOf stand place → place.part ≢ parts.Link → MayStand text place line
-    → IsWrongIn place.version text line.number stand line.bytes.now line.is_ended → ⊥
-not_wrong text stand place line is other may (TooLong long) = omega (arith, may.short, long)
-not_wrong text stand place line is other may (NoEnd none) = let bad : true ≡ false = sym may.ended ∙ none in absurd (cc)
-not_wrong text stand place line is other may (TooMany many) = may.room (many_there stand place line.bytes.now is other many)
-not_wrong text stand place line is other may (Other none) = none_right place.version stand place line.bytes.now is other may.right none
+pub not_wrong : (text : List ℕ) (context : Context) (place : Place) (line : TextLine) → IsPlaceOf context place → place.part ≢ parts.Link → IsAllowedAt text place line
+    → IsWrongIn place.version text line.number context line.bytes.now line.is_ended → ⊥
+not_wrong text context place line is other may (TooLong long) = omega (arith, may.short, long)
+not_wrong text context place line is other may (NoEnd none) = let bad : true ≡ false = sym may.ended ∙ none in absurd (cc)
+not_wrong text context place line is other may (TooMany many) = may.room (many_there context place line.bytes.now is other many)
+not_wrong text context place line is other may (Other none) = none_right place.version context place line.bytes.now is other may.right none
 not_wrong text (AtHeader kind) place line is other may (Second twice) = twice
 not_wrong text (AmongSteps steps) place line is other may (Second twice) = twice
 not_wrong text (AmongCommands commands) place line is other may (Second twice) = twice
@@ -83,28 +83,28 @@ not_wrong text (AmongLines instructions labels) place line (inl is) other may (S
 not_wrong text (AmongLines instructions labels) place line (inr is) other may (Second twice) = other is
 
 -- so nothing is told of none that is wanted
-not_left_out : (text : List ℕ) (place : Place) (line : TextLine) → StandsAt text line.number place → IsLineAt text line → IsQuietAt text place line
+not_left_out : (text : List ℕ) (place : Place) (line : TextLine) → IsPlaceAt text line.number place → IsLineAt text line → IsQuietAt text place line
     → ((place.part ≡ parts.Link) × IsUnlinked text line.number) ⊎ ((place.part ≢ parts.Link) × IsWrongThere text line.number) → ⊥
-not_left_out text place line stands at quiet (inl is) =
+not_left_out text place line in_context at quiet (inl is) =
     let wrong = is.1 in
-    let version = one_version (head_of (kind_of text)) text wrong.version place.version wrong.of_text stands.version in
+    let version = one_version (head_of (kind_of text)) text wrong.version place.version wrong.of_text in_context.version in
     quiet.linked is.0 wrong.one (subst (λ (v : Version). IsLineOf v wrong.one) version wrong.good) (at.bytes ∙ wrong.spelled) wrong.nowhere
-not_left_out text place line stands at quiet (inr is) =
+not_left_out text place line in_context at quiet (inr is) =
     let wrong = is.1 in
-    let stand = stand_behind (kind_of text) text (line.number - 1) in
-    let version = one_version (head_of (kind_of text)) text wrong.version place.version wrong.of_text stands.version in
-    not_wrong text stand place line stands.stands is.0 quiet.may
-    (subst (λ (v : Version). IsWrongIn v text line.number stand line.bytes.now line.is_ended) version
-    (subst (λ (ended : Bool). IsWrongIn wrong.version text line.number stand line.bytes.now ended) (sym at.ended)
-    (subst (λ (bytes : List ℕ). IsWrongIn wrong.version text line.number stand bytes (has_end line.number text)) (sym at.bytes) wrong.wrong)))
+    let context = context_after (kind_of text) text (line.number - 1) in
+    let version = one_version (head_of (kind_of text)) text wrong.version place.version wrong.of_text in_context.version in
+    not_wrong text context place line in_context.in_context is.0 quiet.may
+    (subst (λ (v : Version). IsWrongIn v text line.number context line.bytes.now line.is_ended) version
+    (subst (λ (ended : Bool). IsWrongIn wrong.version text line.number context line.bytes.now ended) (sym at.ended)
+    (subst (λ (bytes : List ℕ). IsWrongIn wrong.version text line.number context bytes (has_end line.number text)) (sym at.bytes) wrong.wrong)))
 
-pub told_after : (part : Part) (passed : ℕ) (text : List ℕ) (place : Place) (line : TextLine) → part ≡ place.part → StandsAt text line.number place → IsLineAt text line
+pub reported_after : (part : Part) (passed : ℕ) (text : List ℕ) (place : Place) (line : TextLine) → part ≡ place.part → IsPlaceAt text line.number place → IsLineAt text line
     → IsQuietAt text place line → IsWrongAfter part passed text line.number → ⊥
-told_after part passed text place line same stands at quiet wrong =
-    let here = subst (λ (p : Part). IsWrongAfter p passed text line.number) same wrong in not_left_out text place line stands at quiet here.2
+reported_after part passed text place line same in_context at quiet wrong =
+    let here = subst (λ (p : Part). IsWrongAfter p passed text line.number) same wrong in not_left_out text place line in_context at quiet here.2
 
 -- before a line that is one too many few lines stand
-abbrev IsWithin : Stand → ℕ → Type 0
+abbrev IsWithin : Context → ℕ → Type 0
 IsWithin (AtHeader kind) count = count ≡ 0
 IsWithin (AmongSteps steps) count = (count ≡ steps + 1) × (steps ≤ 4096)
 IsWithin (AmongCommands commands) count = (count ≤ commands + 4098) × (commands ≤ 4096)
@@ -136,7 +136,7 @@ within_lines instructions labels count line false is few room =
       | inr over ↦ absurd (room (inr (over, λ label. let bad : true ≡ false = sym (begins line label) ∙ is in absurd (cc))))
     ]
 
-within_more : (stand : Stand) (count : ℕ) (line : List ℕ) → IsWithin stand count → (IsOneTooMany stand line → ⊥) → IsWithin (stand_after stand line) (suc count)
+within_more : (context : Context) (count : ℕ) (line : List ℕ) → IsWithin context count → (IsOneTooMany context line → ⊥) → IsWithin (next_context context line) (suc count)
 within_more (AtHeader Schedule) count line few room = (omega (arith, few), omega arith)
 within_more (AtHeader Program) count line few room = (omega (arith, few), omega arith, omega arith)
 within_more (AmongSteps steps) count line few room = within_steps steps count line (bytes_eq line debug_line) refl few room
@@ -144,13 +144,13 @@ within_more (AmongCommands commands) count line few room =
     elim (cases_lt commands 4096) [ inl below ↦ (omega (arith, few.0), omega (arith, below)) | inr over ↦ absurd (room over) ]
 within_more (AmongLines instructions labels) count line few room = within_lines instructions labels count line (begins_label line) refl few room
 
-within : (text : List ℕ) (count : ℕ) → ((earlier : ℕ) → earlier < count → IsTooManyAfter text earlier → ⊥) → IsWithin (stand_behind (kind_of text) text count) count
+within : (text : List ℕ) (count : ℕ) → ((earlier : ℕ) → earlier < count → IsTooManyAfter text earlier → ⊥) → IsWithin (context_after (kind_of text) text count) count
 within text zero none = refl
 within text (suc count) none =
-    within_more (stand_behind (kind_of text) text count) count (first_line (after_lines count text))
+    within_more (context_after (kind_of text) text count) count (first_line (after_lines count text))
     (within text count (λ earlier below. none earlier (omega (arith, below)))) (none count (omega arith))
 
-few_by : (stand : Stand) (count : ℕ) → IsWithin stand count → count ≤ 8194
+few_by : (context : Context) (count : ℕ) → IsWithin context count → count ≤ 8194
 few_by (AtHeader kind) count few = omega (arith, few)
 few_by (AmongSteps steps) count few = omega (arith, few.0, few.1)
 few_by (AmongCommands commands) count few = omega (arith, few.0, few.1)
@@ -158,9 +158,9 @@ few_by (AmongLines instructions labels) count few = omega (arith, few.0, few.1, 
 
 pub few_wrong : (text : List ℕ) (number : ℕ) → IsWrongThere text number → number ≤ 8195
 few_wrong text number wrong =
-    let few = few_by (stand_behind (kind_of text) text (number - 1)) (number - 1) (within text (number - 1) wrong.none_too_many) in omega (arith, few)
+    let few = few_by (context_after (kind_of text) text (number - 1)) (number - 1) (within text (number - 1) wrong.none_too_many) in omega (arith, few)
 
-not_past : (stand : Stand) (count : ℕ) → IsWithin stand count → IsPastAll stand → ⊥
+not_past : (context : Context) (count : ℕ) → IsWithin context count → IsPastAll context → ⊥
 not_past (AtHeader kind) count few past = past
 not_past (AmongSteps steps) count few past = omega (arith, few.1, past)
 not_past (AmongCommands commands) count few past = omega (arith, few.1, past)
@@ -168,9 +168,9 @@ not_past (AmongLines instructions labels) count few (inl past) = omega (arith, f
 not_past (AmongLines instructions labels) count few (inr past) = omega (arith, few.2, past)
 
 -- behind a line that was one too many none is wanted
-pub past_all : (text : List ℕ) (before number : ℕ) → IsPastAll (stand_behind (kind_of text) text before) → IsWrongThere text number → before < number → ⊥
+pub past_all : (text : List ℕ) (before number : ℕ) → IsPastAll (context_after (kind_of text) text before) → IsWrongThere text number → before < number → ⊥
 past_all text before number past wrong later =
-    not_past (stand_behind (kind_of text) text before) before
+    not_past (context_after (kind_of text) text before) before
     (within text before (λ earlier below. wrong.none_too_many earlier (omega (arith, below, later)))) past
 
 -- nor is one that is not there
@@ -209,7 +209,7 @@ few_unlinked kinds.Program text line number (inr found) there = few_lines text f
 -- what is at fault behind a fault is so behind its line
 pub wrong_after : (kind : Kind) (text : List ℕ) (fault : Fault) (part : Part) (passed number : ℕ) → passed ≡ line_of fault → IsAtFault kind text fault
     → ((line : ℕ) → fault ≡ faults.NoLabel line → part ≡ parts.Link)
-    → (((line : ℕ) → fault ≢ faults.NoLabel line) → part ≢ parts.Link) → IsWrongBehind fault text number → IsWrongAfter part passed text number
+    → (((line : ℕ) → fault ≢ faults.NoLabel line) → part ≢ parts.Link) → IsWrongAfterFault fault text number → IsWrongAfter part passed text number
 wrong_after kind text (faults.NotALine line) part passed number at is label other wrong =
     (omega (arith, at, wrong.0), omega (arith, few_wrong text number wrong.1), inr (other (λ l e. absurd (cc)), wrong.1))
 wrong_after kind text (faults.TooLong line) part passed number at is label other wrong =

@@ -32,11 +32,11 @@ pub mod SoFar
 pub mod SoFarMore
 pub mod SaidWords
 pub mod Spoken
-pub mod Standing
+pub mod InContext
 pub mod SteppedTexts
-pub mod ToldBehind
-pub mod ToldFirst
-pub mod ToldFor
-pub mod ToldOf
+pub mod ReportedAfter
+pub mod ReportedFirst
+pub mod ReportedFor
+pub mod ReportedOf
 pub mod WalkedTexts
 pub mod Wronged

@@ -7,7 +7,7 @@ use Rattle.std.specs.Str.{bytes_eq}
 use Rattle.tx_check.proofs.Growing.{none_left}
 use Rattle.tx_check.proofs.OwnLines.{lines_after}
 use Rattle.tx_check.specs.Numbered.{after_lines, line_at}
-use Rattle.tx_check.specs.Stands.{begins_label}
+use Rattle.tx_check.specs.Contexts.{begins_label}
 use Rattle.tx_lines.specs.Programs.{label_front}
 use Rattle.tx_lines.specs.Schedule.{first_line}
 

@@ -2,10 +2,10 @@
 use Rattle.std.proofs.Common.{◌≡◌, ◌≢◌, ◌∙◌, ℕ, ◌+◌, ◌≤◌, List, [], ◌∷◌, ◌++◌, Option, Some, None, length, length-append, map, refl, ap, sym, subst, inr, arith, All, append-nil, append_assoc}
 use Rattle.std.specs.Map.{lookup}
 use Rattle.tx_check.proofs.EndedLines.{all_at}
-use Rattle.tx_check.proofs.Growing.{first_of, next_behind}
+use Rattle.tx_check.proofs.Growing.{first_of, next_after}
 use Rattle.tx_check.proofs.LabelsFound.{found_label, label_at, labelled, none_labelled, HasLines, IsLabelled}
 use Rattle.tx_check.proofs.ReadTexts.{program_read}
-use Rattle.tx_check.specs.Behind.{AreProgramLines}
+use Rattle.tx_check.specs.AfterHeader.{AreProgramLines}
 use Rattle.tx_check.specs.Numbered.{behind, line_at}
 use Rattle.tx_check.specs.Reads.{IsAtFault, IsRead}
 use Rattle.tx_check.specs.Wrong.{IsNamedNowhere, IsNowhere}
@@ -55,7 +55,7 @@ next_by version before (one ∷ more) left fit is some =
       more = more;
       parts = refl;
       first = ap first_line whole ∙ first_of version one more [] good;
-      later = ap behind whole ∙ next_behind version one more [] good ∙ append-nil (lines_of line_text more);
+      later = ap behind whole ∙ next_after version one more [] good ∙ append-nil (lines_of line_text more);
       good = good;
     }
 

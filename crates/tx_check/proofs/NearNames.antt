@@ -6,7 +6,7 @@ use Rattle.tx_check.proofs.KnownLabels.{labels_more}
 use Rattle.tx_check.specs.Labels.{labels_in}
 use Rattle.tx_check.specs.Near.{bound, label_name, label_names, with_name, AreFar, FindsName, FindsNear, IsNear}
 use Rattle.tx_check.specs.Numbered.{after_lines}
-use Rattle.tx_check.specs.Stands.{begins_label}
+use Rattle.tx_check.specs.Contexts.{begins_label}
 use Rattle.tx_lines.specs.Programs.{BeginsLabel}
 use Rattle.tx_lines.specs.Schedule.{first_line}
 

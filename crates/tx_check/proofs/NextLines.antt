@@ -15,8 +15,8 @@ pub record IsRight (IsNone : List ℕ → Type 0) (rest : List ℕ) : Type 0 whe
   pub ended : (after_line rest ≡ None) → ⊥
   pub some : IsNone (first_line rest) → ⊥
 
-pub some_behind : (rest behind : List ℕ) → after_line rest ≡ Some behind → (after_line rest ≡ None) → ⊥
-some_behind rest behind e none = absurd (cc)
+pub some_after : (rest behind : List ℕ) → after_line rest ≡ Some behind → (after_line rest ≡ None) → ⊥
+some_after rest behind e none = absurd (cc)
 
 -- after fewer lines than there may be
 pub next_right : (number : ℕ) (IsNone : List ℕ → Type 0) (count : ℕ) (rest : List ℕ) (fault : Fault) → IsRight IsNone rest → count < 4096 → FaultsAtNext number IsNone count rest fault → ⊥
@@ -57,4 +57,4 @@ pub header_right : (kind : TextKind) (text : List ℕ) (header : Header) (rest :
 header_right kind text header rest fault spells =
     let short = short_header kind header spells.fits in
     header_by kind text header fault spells.fits (ap first_line spells.spelled ∙ first_ended (header_text kind header) rest short.in_line) short.few
-    (some_behind text rest (ap after_line spells.spelled ∙ after_ended (header_text kind header) rest short.in_line))
+    (some_after text rest (ap after_line spells.spelled ∙ after_ended (header_text kind header) rest short.in_line))

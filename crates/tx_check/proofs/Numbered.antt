@@ -18,8 +18,8 @@ pub lines_more : (count : ℕ) (text : List ℕ) → behind (after_lines count t
 lines_more count text = rw add-one refl
 
 -- the line behind so many
-pub line_behind : (count number : ℕ) (text : List ℕ) → number ≡ count + 1 → first_line (after_lines count text) ≡ line_at number text
-line_behind count number text at =
+pub line_after : (count number : ℕ) (text : List ℕ) → number ≡ count + 1 → first_line (after_lines count text) ≡ line_at number text
+line_after count number text at =
     let before : count ≡ number - 1 = omega (arith, at) in
     ap (λ (n : ℕ). first_line (after_lines n text)) before
 

@@ -1,7 +1,7 @@
 -- A text of lines has at most one fault, and none where it is whole, if a line that is right in its place is not at fault there.
 use Rattle.std.proofs.Common.{◌≡◌, ◌∙◌, ℕ, List, [], ◌∷◌, ◌++◌, Some, length, ap, sym, subst, inl, inr, arith, append_assoc, append-nil, length-append}
 use Rattle.tx_check.proofs.EndedLines.{after_ended, compare, first_ended, with_ends, AreFronts, AreLinesEach}
-use Rattle.tx_check.specs.Told.{IsInLine}
+use Rattle.tx_check.specs.Diagnostics.{IsInLine}
 use Rattle.tx_lines.specs.Schedule.{after_line, first_line}
 use Rattle.tx_lines.specs.declared.faults.Fault.{Fault}
 
@@ -35,8 +35,8 @@ goes_on grammar before line more rest end fault begun behind next =
     grammar.right before line more rest (with_ends more ++ end) fault begun (ap first_line moved ∙ first_ended line (with_ends more ++ end) in_line)
     (ap after_line moved ∙ after_ended line (with_ends more ++ end) in_line) next
 
-none_behind : (line : List ℕ) (more : List (List ℕ)) (rest : List ℕ) → [] ≡ with_ends (line ∷ more) ++ rest → ⊥
-none_behind line more rest e =
+none_ahead : (line : List ℕ) (more : List (List ℕ)) (rest : List ℕ) → [] ≡ with_ends (line ∷ more) ++ rest → ⊥
+none_ahead line more rest e =
     omega (arith, ap length e, length-append (with_ends (line ∷ more)) rest, length-append line (10 ∷ with_ends more))
 
 -- no text is both whole and at fault
@@ -57,7 +57,7 @@ never_both {IsBegun} {IsWhole} {FaultsNext} grammar text lines fault whole spell
   where
     by : AreFronts faulty.lines faulty.rest lines [] → ⊥
     by (inl on) = never_on grammar lines faulty.lines faulty.rest fault on.more whole faulty.next on.whole on.behind
-    by (inr found) = none_behind found.0 found.1 faulty.rest found.3
+    by (inr found) = none_ahead found.0 found.1 faulty.rest found.3
 
 -- no text has two faults
 one_on : {IsBegun IsWhole : List (List ℕ) → Type 0} {FaultsNext : List (List ℕ) → List ℕ → Fault → Type 0} → IsGrammar IsBegun IsWhole FaultsNext

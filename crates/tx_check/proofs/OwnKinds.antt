@@ -4,13 +4,13 @@ use Rattle.std.specs.Fmt.{decimal}
 use Rattle.std.specs.Str.{bytes_eq}
 use Rattle.tx_base.specs.declared.steps.Step.{Step}
 use Rattle.tx_check.proofs.EndedLines.{after_ended, first_ended}
-use Rattle.tx_check.proofs.Growing.{all_behind}
+use Rattle.tx_check.proofs.Growing.{all_after}
 use Rattle.tx_check.proofs.ShortLines.{short_header, short_step}
 use Rattle.tx_check.proofs.SoFar.{debug_later, not_debug}
 use Rattle.tx_check.proofs.WalkedTexts.{no_debug}
 use Rattle.tx_check.specs.Kinds.{debug_ahead, has_debug, is_program_head, kind_of}
 use Rattle.tx_check.specs.Reads.{IsRead}
-use Rattle.tx_check.specs.Told.{IsInLine}
+use Rattle.tx_check.specs.Diagnostics.{IsInLine}
 use Rattle.tx_check.specs.declared.kinds.Kind.{Kind}
 use Rattle.tx_check.specs.declared.kinds.Kind.TheVariants as kinds
 use Rattle.tx_lines.specs.Lines.{header_front, header_text, step_text}
@@ -37,7 +37,7 @@ ahead_steps version (step ∷ steps) rest fit =
     ap debug_ahead (append_assoc (step_text step) (10 ∷ steps_text steps) rest)
     ∙ ahead_line (step_text step) (steps_text steps ++ rest) (short_step step fits.fits).in_line
     ∙ ap (λ (here : Bool). here || debug_ahead (steps_text steps ++ rest)) (not_debug (step_text step) (no_debug step))
-    ∙ ahead_steps version steps rest (all_behind (FitsStepOf version) step steps fit)
+    ∙ ahead_steps version steps rest (all_after (FitsStepOf version) step steps fit)
 
 -- the first line tells programs from schedules
 head_of_schedule : (version : Version) (count : ℕ) → is_program_head (header_front texts.Schedule version ++ decimal count) ≡ false

@@ -6,13 +6,13 @@ use Rattle.tx_check.specs.Kinds.{kind_of}
 use Rattle.tx_check.specs.Numbered.{after_lines, behind, line_at}
 use Rattle.tx_check.specs.OwnLines.{GoesOn, IsFrom, IsWrongAfter}
 use Rattle.tx_check.specs.Reads.{line_of, IsAtFault, IsRead}
-use Rattle.tx_check.specs.Told.{IsToldBy, IsWrongOwn, Tells, TellsFrom}
-use Rattle.tx_check.specs.Wrong.{IsWrongBehind, IsWrongLine, IsWrongToo}
+use Rattle.tx_check.specs.Diagnostics.{IsReportBy, IsWrongOwn, Reports, ReportsFrom}
+use Rattle.tx_check.specs.Wrong.{IsWrongAfterFault, IsWrongLine, IsWrongToo}
 use Rattle.tx_check.specs.declared.kinds.Kind.{Kind}
 use Rattle.tx_check.specs.declared.own.TextFrom.{TextFrom}
 use Rattle.tx_check.specs.declared.places.Part.{Part}
-use Rattle.tx_check.proofs.Appended.{fewer, last_known, more_told}
-use Rattle.tx_check.proofs.ToldOf.{are_one, told_fault}
+use Rattle.tx_check.proofs.Appended.{fewer, last_known, more_reported}
+use Rattle.tx_check.proofs.ReportedOf.{are_one, fault_report}
 use Rattle.tx_lines.specs.Schedule.{first_line}
 use Rattle.tx_lines.specs.declared.faults.Fault.{Fault}
 use Rattle.tx_lines.specs.declared.faults.Fault.TheVariants.{NotALine, NoLabel, TooLong}
@@ -49,11 +49,11 @@ wanted_on line number P wanted =
 -- what is told of a later line
 pub goes_on : (part : Part) (meant : MeantLines) (line own : ℕ) (from next : TextFrom) (number : ℕ) (bytes old new : List ℕ) → from.number < next.number
     → next.left.now ≡ after_lines (next.number - from.number) from.left.now → number ≡ next.number
-    → bytes ≡ first_line next.left.now → next.number ≡ own → IsWrongLine (left_of meant) line → Tells number bytes old new → GoesOn part meant line own from next old new
-goes_on part meant line own from next number bytes old new after left at same here wrong tells = λ text is_meant is_own before is.
+    → bytes ≡ first_line next.left.now → next.number ≡ own → IsWrongLine (left_of meant) line → Reports number bytes old new → GoesOn part meant line own from next old new
+goes_on part meant line own from next number bytes old new after left at same here wrong reports = λ text is_meant is_own before is.
     let there = moved text from next is (omega (arith, after)) left in
     let spelled : bytes ≡ line_at next.number text = same ∙ ap first_line there.left in
-    let told = subst (λ (n : ℕ). Tells n bytes old new) at tells in
+    let report = subst (λ (n : ℕ). Reports n bytes old new) at reports in
     let whose : own_line text line ≡ next.number = sym is_own ∙ sym here in
     let is_wrong : IsWrongOwn text next.number = record {
       meant = line;
@@ -64,18 +64,18 @@ goes_on part meant line own from next number bytes old new after left at same he
       is = there;
       up_to = omega (arith, whose);
       on = λ passed first up_to.
-          more_told (λ n. (n ≤ line - 1) × IsWrongAfter part passed (meant_of text) n) (λ n. (n ≤ line) × IsWrongAfter part passed (meant_of text) n) text bytes first from.number next.number old new
+          more_reported (λ n. (n ≤ line - 1) × IsWrongAfter part passed (meant_of text) n) (λ n. (n ≤ line) × IsWrongAfter part passed (meant_of text) n) text bytes first from.number next.number old new
           (λ n wanted. elim (wanted_on line n (IsWrongAfter part passed (meant_of text) n) wanted) [ inl earlier ↦ inl earlier | inr last ↦ inr (ap (own_line text) last ∙ whose) ])
-          spelled is_wrong told after up_to;
+          spelled is_wrong report after up_to;
     }
 
 -- where the line is told already
-pub is_told : (part : Part) (meant : MeantLines) (line own : ℕ) (from : TextFrom) (told : List ℕ) → own ≤ from.number → GoesOn part meant line own from from told told
-is_told part meant line own from told already = λ text is_meant is_own before is. record {
+pub is_reported : (part : Part) (meant : MeantLines) (line own : ℕ) (from : TextFrom) (report : List ℕ) → own ≤ from.number → GoesOn part meant line own from from report report
+is_reported part meant line own from report already = λ text is_meant is_own before is. record {
   is = is;
   up_to = omega (arith, before, is_own);
   on = λ passed first up_to.
-      last_known (λ n. (n ≤ line - 1) × IsWrongAfter part passed (meant_of text) n) (λ n. (n ≤ line) × IsWrongAfter part passed (meant_of text) n) text first from.number told
+      last_known (λ n. (n ≤ line - 1) × IsWrongAfter part passed (meant_of text) n) (λ n. (n ≤ line) × IsWrongAfter part passed (meant_of text) n) text first from.number report
       (λ n wanted. elim (wanted_on line n (IsWrongAfter part passed (meant_of text) n) wanted) [
         | inl earlier ↦ inl earlier
         | inr last ↦ inr (ap (own_line text) last ∙ omega (arith, already, before, is_own))
@@ -84,13 +84,13 @@ is_told part meant line own from told already = λ text is_meant is_own before i
 }
 
 -- where nothing is to be told of it
-pub is_quiet : (part : Part) (meant : MeantLines) (line own : ℕ) (from : TextFrom) (told : List ℕ) → ((passed : ℕ) → IsWrongAfter part passed (left_of meant) line → ⊥)
-    → GoesOn part meant line own from from told told
-is_quiet part meant line own from told quiet = λ text is_meant is_own before is. record {
+pub is_quiet : (part : Part) (meant : MeantLines) (line own : ℕ) (from : TextFrom) (report : List ℕ) → ((passed : ℕ) → IsWrongAfter part passed (left_of meant) line → ⊥)
+    → GoesOn part meant line own from from report report
+is_quiet part meant line own from report quiet = λ text is_meant is_own before is. record {
   is = is;
   up_to = omega (arith, before, is_own);
   on = λ passed first up_to.
-      last_known (λ n. (n ≤ line - 1) × IsWrongAfter part passed (meant_of text) n) (λ n. (n ≤ line) × IsWrongAfter part passed (meant_of text) n) text first from.number told
+      last_known (λ n. (n ≤ line - 1) × IsWrongAfter part passed (meant_of text) n) (λ n. (n ≤ line) × IsWrongAfter part passed (meant_of text) n) text first from.number report
       (λ n wanted. elim (wanted_on line n (IsWrongAfter part passed (meant_of text) n) wanted) [
         | inl earlier ↦ inl earlier
         | inr last ↦ absurd (quiet passed (subst (λ (bytes : List ℕ). IsWrongAfter part passed bytes line) (sym is_meant) (subst (IsWrongAfter part passed (meant_of text)) last wanted.1)))
@@ -165,22 +165,22 @@ own_number lines (TooLong line) some = refl
 own_number lines _ some = absurd (omega (arith, some))
 
 -- where fewer lines are wanted
-pub told_fewer : {A E : Type 0} (bytes : A → List ℕ) (result : Result A E) (IsWanted IsLess : ℕ → Type 0) (text : List ℕ) (number : ℕ) → ((meant : ℕ) → IsLess meant → IsWanted meant)
-    → IfOk result (λ told. TellsFrom IsWanted text number (bytes told)) → IfOk result (λ told. TellsFrom IsLess text number (bytes told))
-told_fewer bytes (Ok told) IsWanted IsLess text number less tells = fewer IsWanted IsLess text number (bytes told) less tells
-told_fewer bytes (Err error) IsWanted IsLess text number less tells = tt
+pub report_fewer : {A E : Type 0} (bytes : A → List ℕ) (result : Result A E) (IsWanted IsLess : ℕ → Type 0) (text : List ℕ) (number : ℕ) → ((meant : ℕ) → IsLess meant → IsWanted meant)
+    → IfOk result (λ report. ReportsFrom IsWanted text number (bytes report)) → IfOk result (λ report. ReportsFrom IsLess text number (bytes report))
+report_fewer bytes (Ok report) IsWanted IsLess text number less reports = fewer IsWanted IsLess text number (bytes report) less reports
+report_fewer bytes (Err error) IsWanted IsLess text number less reports = tt
 
 -- what is told of a text where one that it means is at fault
-pub fault_told : {A E : Type 0} (bytes : A → List ℕ) (result : Result A E) (IsWanted : ℕ → Type 0) (kind : Kind) (text : List ℕ) (fault : Fault) (number : ℕ)
+pub fault_reported : {A E : Type 0} (bytes : A → List ℕ) (result : Result A E) (IsWanted : ℕ → Type 0) (kind : Kind) (text : List ℕ) (fault : Fault) (number : ℕ)
     → IsAtFault kind (meant_of text) fault → 1 ≤ line_of fault → number ≡ own_line text (line_of fault)
-    → IfOk result (λ told. TellsFrom IsWanted text number (bytes told)) → IfOk result (λ told. IsToldBy (IsRead kind (meant_of text)) (IsOwnFault (IsAtFault kind) text) IsWanted text (bytes told))
-fault_told bytes (Ok told) IsWanted kind text fault number at_fault some own tells = told_fault IsWanted text (bytes told) (are_one kind text) (record {
+    → IfOk result (λ report. ReportsFrom IsWanted text number (bytes report)) → IfOk result (λ report. IsReportBy (IsRead kind (meant_of text)) (IsOwnFault (IsAtFault kind) text) IsWanted text (bytes report))
+fault_reported bytes (Ok report) IsWanted kind text fault number at_fault some own reports = fault_report IsWanted text (bytes report) (are_one kind text) (record {
   fault = fault_by (own_line text) fault;
   is_fault = record { meant = fault; is_fault = at_fault; own = refl };
-  tells = subst (λ (n : ℕ). TellsFrom IsWanted text n (bytes told)) (own ∙ own_number (own_line text) fault some) tells;
+  reports = subst (λ (n : ℕ). ReportsFrom IsWanted text n (bytes report)) (own ∙ own_number (own_line text) fault some) reports;
 })
-fault_told bytes (Err error) IsWanted kind text fault number at_fault some own tells = tt
+fault_reported bytes (Err error) IsWanted kind text fault number at_fault some own reports = tt
 
 -- behind the one fault of a text
-pub wrong_too : (text : List ℕ) (fault : Fault) → IsAtFault (kind_of text) text fault → (number : ℕ) → IsWrongToo text number → IsWrongBehind fault text number
-wrong_too text fault is number wrong = subst (λ (f : Fault). IsWrongBehind f text number) (none_has_two (kind_of text) text wrong.fault fault wrong.is_fault is) wrong.too
+pub wrong_too : (text : List ℕ) (fault : Fault) → IsAtFault (kind_of text) text fault → (number : ℕ) → IsWrongToo text number → IsWrongAfterFault fault text number
+wrong_too text fault is number wrong = subst (λ (f : Fault). IsWrongAfterFault f text number) (none_has_two (kind_of text) text wrong.fault fault wrong.is_fault is) wrong.too

@@ -3,7 +3,7 @@ use Rattle.std.proofs.Common.{◌≡◌, ◌∙◌, ℕ, zero, suc, ◌+◌, ◌
 use Rattle.std.proofs.Common.{List, [], ◌∷◌, ◌++◌, Option, Some, None, is_some, length, nat_lt, slice_index_or, ap, sym, subst, refl, inl, inr, arith}
 use Rattle.std.proofs.lemmas.Bool.Decides.{eqb_tells}
 use Rattle.std.proofs.lemmas.Bool.{ltb-false, ne_eqb}
-use Rattle.tx_check.proofs.Growing.{behind_first, none_left}
+use Rattle.tx_check.proofs.Growing.{none_left, past_first}
 use Rattle.tx_check.specs.Numbered.{after_lines, behind, behind_by, line_at}
 use Rattle.tx_lines.specs.Schedule.{after_line, first_line}
 use Rattle.tx_translate.proofs.LineParts.{own_last, own_split}
@@ -92,7 +92,7 @@ later_own number k after left meant numbers is = record {
   same = omega (arith, is.same);
   stage = is.stage;
   line = is.line;
-  own = is.own ∙ ap (λ (t : List ℕ). without_return (first_line t)) (sym (behind_first is.on left));
+  own = is.own ∙ ap (λ (t : List ℕ). without_return (first_line t)) (sym (past_first is.on left));
   means = is.means;
 }
 
@@ -149,7 +149,7 @@ meant_by (line ∷ lines) left stage number k after own few =
           stage = found.stage;
           line = found.line;
           own = found.own;
-          means = ap first_line (behind_first k text ∙ ap (after_lines k) rest) ∙ found.means;
+          means = ap first_line (past_first k text ∙ ap (after_lines k) rest) ∙ found.means;
         }
 
 -- so does each line that a text of version 3 means

@@ -6,7 +6,7 @@ use Rattle.std.specs.Map.{keys_of, lookup}
 use Rattle.tx_check.proofs.EndedLines.{all_at, all_each, among, heads_same, spelled_lines, with_ends, AreLinesEach}
 use Rattle.tx_check.proofs.Labelled.{instructions_both, labels_both, labels_split, linked_first, linked_later, linked_none, not_twice, same_counts, same_labels}
 use Rattle.tx_check.proofs.NamedLabels.{no_label, same_label, same_user}
-use Rattle.tx_check.proofs.NextLines.{some_behind, IsRight}
+use Rattle.tx_check.proofs.NextLines.{some_after, IsRight}
 use Rattle.tx_check.proofs.OneFault.{IsFaulty, IsGrammar}
 use Rattle.tx_check.proofs.ShortLines.{short_line}
 use Rattle.tx_lines.specs.Programs.{instructions_of, labels_of, line_text, linked, same_name, AreLines, FaultsAfterLines, FaultsAmongLines, FaultsAtProgramLine, IsFirstUser, IsLineOf, IsNoLineOf, IsPastLines, IsSecondLabel, IsUser}
@@ -83,7 +83,7 @@ right_line version before text more rest behind fault begun is after faults =
     let same : map line_text faults.begins.ones ≡ map line_text found.earlier = sym faults.begins.same ∙ sym found.before_this in
     line_right version faults.begins.ones rest fault (record {
       short = omega (arith, ap length spelled, (short_line version found.this good).few);
-      ended = some_behind rest behind after;
+      ended = some_after rest behind after;
       some = λ none. none found.this good spelled;
     }) (some_rest rest behind after)
     (λ past. not_past version faults.begins.ones found.earlier found.this found.later are same (subst (λ (t : List ℕ). IsPastLines faults.begins.ones t) spelled past))

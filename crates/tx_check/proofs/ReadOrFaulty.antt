@@ -7,7 +7,7 @@ use Rattle.tx_check.proofs.ProgramTexts.{program_faulty, program_grammar, IsWhol
 use Rattle.tx_check.proofs.SameHeaders.{same_header}
 use Rattle.tx_check.proofs.SteppedTexts.{schedule_faulty, schedule_grammar, BeginsSteps}
 use Rattle.tx_check.proofs.WalkedTexts.{before_lines, walk_faulty, walk_grammar, BeginsCommands}
-use Rattle.tx_check.proofs.ReadTexts.{same_fault, FaultsBehind, IsFault}
+use Rattle.tx_check.proofs.ReadTexts.{same_fault, FaultsAfter, IsFault}
 use Rattle.tx_check.specs.Kinds.{head_of}
 use Rattle.tx_check.specs.Reads.{IsAtFault, IsRead}
 use Rattle.tx_check.specs.declared.kinds.Kind.{Kind}
@@ -75,12 +75,12 @@ whole kinds.Program text read =
       whole = record { begins = record { ones = ones; same = refl; are = is.lines_fit }; made = program.instructions.items; linked_all = is.instructions };
     }
 
-never_later : (kind : Kind) (version : Version) (rest : List ℕ) (lines : List (List ℕ)) (fault : Fault) → IsRest kind version lines → rest ≡ with_ends lines → FaultsBehind kind version rest fault → ⊥
+never_later : (kind : Kind) (version : Version) (rest : List ℕ) (lines : List (List ℕ)) (fault : Fault) → IsRest kind version lines → rest ≡ with_ends lines → FaultsAfter kind version rest fault → ⊥
 never_later kinds.Schedule version rest lines fault all same is = never_both (schedule_grammar version) rest lines fault all same (schedule_faulty version rest fault is)
 never_later kinds.Walk version rest lines fault all same is = never_both (walk_grammar version) rest lines fault all same (walk_faulty version rest fault is)
 never_later kinds.Program version rest lines fault all same is = never_both (program_grammar version) rest lines fault all same (program_faulty version rest fault is)
 
-one_later : (kind : Kind) (version : Version) (rest : List ℕ) (a b : Fault) → FaultsBehind kind version rest a → FaultsBehind kind version rest b → a ≡ b
+one_later : (kind : Kind) (version : Version) (rest : List ℕ) (a b : Fault) → FaultsAfter kind version rest a → FaultsAfter kind version rest b → a ≡ b
 one_later kinds.Schedule version rest a b first second = one_fault (schedule_grammar version) rest a b (schedule_faulty version rest a first) (schedule_faulty version rest b second)
 one_later kinds.Walk version rest a b first second = one_fault (walk_grammar version) rest a b (walk_faulty version rest a first) (walk_faulty version rest b second)
 one_later kinds.Program version rest a b first second = one_fault (program_grammar version) rest a b (program_faulty version rest a first) (program_faulty version rest b second)
@@ -90,7 +90,7 @@ never kind text fault all (inl header) = header_right (head_of kind) text all.he
 never kind text fault all (inr found) =
     let same = same_header (head_of kind) text found.0 all.header found.1 all.rest found.2 all.spells in
     never_later kind all.header.version all.rest all.lines fault all.whole all.same
-    (subst (λ (r : List ℕ). FaultsBehind kind all.header.version r fault) same.1 (subst (λ (v : Version). FaultsBehind kind v found.1 fault) same.0 found.3))
+    (subst (λ (r : List ℕ). FaultsAfter kind all.header.version r fault) same.1 (subst (λ (v : Version). FaultsAfter kind v found.1 fault) same.0 found.3))
 
 two : (kind : Kind) (text : List ℕ) (a b : Fault) → IsFault kind text a → IsFault kind text b → a ≡ b
 two kind text a b (inl first) (inl second) = header_once (head_of kind) text a b first second
@@ -99,7 +99,7 @@ two kind text a b (inr found) (inl second) = absurd (header_right (head_of kind)
 two kind text a b (inr first) (inr second) =
     let same = same_header (head_of kind) text second.0 first.0 second.1 first.1 second.2 first.2 in
     one_later kind first.0.version first.1 a b first.3
-    (subst (λ (r : List ℕ). FaultsBehind kind first.0.version r b) same.1 (subst (λ (v : Version). FaultsBehind kind v second.1 b) same.0 second.3))
+    (subst (λ (r : List ℕ). FaultsAfter kind first.0.version r b) same.1 (subst (λ (v : Version). FaultsAfter kind v second.1 b) same.0 second.3))
 
 pub none_is_both : (kind : Kind) (text : List ℕ) (fault : Fault) → IsRead kind text → IsAtFault kind text fault → ⊥
 none_is_both kind text fault read is = never kind text fault (whole kind text read) (same_fault kind text fault is)

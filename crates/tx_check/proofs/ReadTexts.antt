@@ -6,7 +6,7 @@ use Rattle.std.specs.Prelude.{Vec}
 use Rattle.indexmap.specs.Layout.{hash_map}
 use denote.RawPtr.{null_ptr}
 use Rattle.tx_base.specs.declared.steps.Step.{Step}
-use Rattle.tx_check.specs.Behind.{AreProgramLines, IsReadBut}
+use Rattle.tx_check.specs.AfterHeader.{AreProgramLines, IsReadBut}
 use Rattle.tx_check.specs.Kinds.{head_of}
 use Rattle.tx_check.specs.Reads.{IsAtFault, IsRead}
 use Rattle.tx_check.specs.declared.kinds.Kind.{Kind}
@@ -83,20 +83,20 @@ but_read kinds.Program text version rest but (inr is) = absurd (cc)
 but_read _ text version rest but is = but
 
 -- what follows a header is at fault, and so a text is: at its header, or after it
-abbrev pub FaultsBehind : Kind → Version → List ℕ → Fault → Type 0
-FaultsBehind kinds.Schedule version rest fault = FaultsAmong step_text (AreSteps version) (FaultsAtStep version) rest fault
-FaultsBehind kinds.Walk version rest fault = FaultsAfterHeader version rest fault
-FaultsBehind kinds.Program version rest fault = FaultsAmongLines version rest fault
+abbrev pub FaultsAfter : Kind → Version → List ℕ → Fault → Type 0
+FaultsAfter kinds.Schedule version rest fault = FaultsAmong step_text (AreSteps version) (FaultsAtStep version) rest fault
+FaultsAfter kinds.Walk version rest fault = FaultsAfterHeader version rest fault
+FaultsAfter kinds.Program version rest fault = FaultsAmongLines version rest fault
 
 abbrev pub IsFault : Kind → List ℕ → Fault → Type 0
-IsFault kind text fault = FaultsAtHeader (head_of kind) text fault ⊎ ((header : Header) × (rest : List ℕ) × SpellsHeader (head_of kind) text header rest × FaultsBehind kind header.version rest fault)
+IsFault kind text fault = FaultsAtHeader (head_of kind) text fault ⊎ ((header : Header) × (rest : List ℕ) × SpellsHeader (head_of kind) text header rest × FaultsAfter kind header.version rest fault)
 
 pub same_fault : (kind : Kind) (text : List ℕ) (fault : Fault) → IsAtFault kind text fault → IsFault kind text fault
 same_fault kinds.Schedule text fault is = is
 same_fault kinds.Walk text fault is = is
 same_fault kinds.Program text fault is = is
 
-pub fault_behind : (kind : Kind) (text : List ℕ) (header : Header) (rest : List ℕ) (fault : Fault) → SpellsHeader (head_of kind) text header rest → FaultsBehind kind header.version rest fault → IsAtFault kind text fault
-fault_behind kinds.Schedule text header rest fault spells is = inr (header, rest, spells, is)
-fault_behind kinds.Walk text header rest fault spells is = inr (header, rest, spells, is)
-fault_behind kinds.Program text header rest fault spells is = inr (header, rest, spells, is)
+pub fault_after_header : (kind : Kind) (text : List ℕ) (header : Header) (rest : List ℕ) (fault : Fault) → SpellsHeader (head_of kind) text header rest → FaultsAfter kind header.version rest fault → IsAtFault kind text fault
+fault_after_header kinds.Schedule text header rest fault spells is = inr (header, rest, spells, is)
+fault_after_header kinds.Walk text header rest fault spells is = inr (header, rest, spells, is)
+fault_after_header kinds.Program text header rest fault spells is = inr (header, rest, spells, is)

@@ -7,7 +7,7 @@ use Rattle.std.proofs.lemmas.Bool.{both_ways, ne_eqb}
 use Rattle.std.specs.Char.{is_ascii_graphic}
 use Rattle.tx_check.proofs.InLine.{in_line_more}
 use Rattle.tx_check.specs.Speaking.{said_word, shown, IsByteAt}
-use Rattle.tx_check.specs.Told.{is_no_end, IsInLine}
+use Rattle.tx_check.specs.Diagnostics.{is_no_end, IsInLine}
 use Rattle.tx_translate.specs.OwnLines.{without_return}
 
 -- one byte more

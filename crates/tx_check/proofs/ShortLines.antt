@@ -12,7 +12,7 @@ use Rattle.tx_base.specs.declared.steps.Step.TheVariants as steps
 use Rattle.tx_base.specs.declared.steps.When.TheVariants.{Always, IfRet}
 use Rattle.tx_check.proofs.InLine.{both_true}
 use Rattle.tx_check.proofs.ShortWords.{has_plain, is_plain, plain_argument, plain_slot, room, short_decimal, short_name}
-use Rattle.tx_check.specs.Told.{is_no_end, IsInLine}
+use Rattle.tx_check.specs.Diagnostics.{is_no_end, IsInLine}
 use Rattle.tx_lines.specs.Arguments.{is_spelled, word_of, AllFit, Argument, FitsArgument}
 use Rattle.tx_lines.specs.Calls.{arguments_of, call_text, name_of, program_arguments, FitsCall}
 use Rattle.tx_lines.specs.Instructions.{instruction_text, spelled_word, spelled_words, AreSpelled, IsInstruction, IsSpelled}

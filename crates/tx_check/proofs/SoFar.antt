@@ -8,12 +8,12 @@ use Rattle.std.specs.Str.{bytes_eq}
 use Rattle.tx_base.specs.declared.steps.Step.{Step}
 use Rattle.tx_check.proofs.Growing.{none_by, some_by}
 use Rattle.tx_check.proofs.LabelsFound.{found_label, labelled, HasLines, IsLabelled}
-use Rattle.tx_check.proofs.ReadTexts.{FaultsBehind}
-use Rattle.tx_check.specs.Behind.{IsFaultAt, IsNoLineAt}
+use Rattle.tx_check.proofs.ReadTexts.{FaultsAfter}
+use Rattle.tx_check.specs.AfterHeader.{IsFaultAt, IsNoLineAt}
 use Rattle.tx_check.specs.Kinds.{begins_with_debug, debug_ahead, has_debug}
 use Rattle.tx_check.specs.Numbered.{behind}
 use Rattle.tx_check.specs.Right.{IsNoneThere, IsRight, IsTooMany}
-use Rattle.tx_check.specs.Stands.{counted, AmongCommands, AmongLines, AmongSteps, IsPlaceOf}
+use Rattle.tx_check.specs.Contexts.{counted, AmongCommands, AmongLines, AmongSteps, IsPlaceOf}
 use Rattle.tx_check.specs.Wrong.{IsTwice}
 use Rattle.tx_check.specs.declared.kinds.Kind.{Kind}
 use Rattle.tx_check.specs.declared.kinds.Kind.TheVariants as kinds
@@ -38,7 +38,7 @@ pub record StepsSoFar (version : Version) (rest : List ℕ) (number : ℕ) (plac
   pub are : AreSteps version steps
   pub spelled : rest ≡ steps_text steps ++ left
   pub at : number ≡ length steps + 2
-  pub stands : IsPlaceOf (AmongSteps (length steps)) place
+  pub in_context : IsPlaceOf (AmongSteps (length steps)) place
 
 -- steps, the line between, and commands
 pub record CommandsSoFar (version : Version) (rest : List ℕ) (number : ℕ) (place : Place) (left : List ℕ) : Type 0 where
@@ -48,7 +48,7 @@ pub record CommandsSoFar (version : Version) (rest : List ℕ) (number : ℕ) (p
   pub are_commands : AreCommands version commands
   pub spelled : rest ≡ before_commands steps (lines_of command_text commands ++ left)
   pub at : number ≡ length commands + (length steps + 3)
-  pub stands : IsPlaceOf (AmongCommands (length commands)) place
+  pub in_context : IsPlaceOf (AmongCommands (length commands)) place
 
 -- instructions and labels
 pub record LinesSoFar (version : Version) (rest : List ℕ) (number : ℕ) (place : Place) (left : List ℕ) : Type 0 where
@@ -57,7 +57,7 @@ pub record LinesSoFar (version : Version) (rest : List ℕ) (number : ℕ) (plac
   pub spelled : rest ≡ lines_of line_text lines ++ left
   pub at : number ≡ length lines + 2
   pub part : place.part ≡ parts.ProgramLine
-  pub stands : IsPlaceOf (AmongLines (length (instructions_of lines)) (length (labels_of lines))) place
+  pub in_context : IsPlaceOf (AmongLines (length (instructions_of lines)) (length (labels_of lines))) place
 
 abbrev pub SoFar : Kind → Version → List ℕ → ℕ → Place → List ℕ → Type 0
 SoFar kinds.Schedule version rest number place left = StepsSoFar version rest number place left × (debug_ahead left ≡ false)
@@ -102,10 +102,10 @@ debug_later (byte ∷ bytes) rest e =
     ]
 
 -- the line before commands is behind the first one
-pub debug_behind : (text : List ℕ) → has_debug text ≡ debug_ahead (behind text)
-debug_behind [] = refl
-debug_behind (byte ∷ bytes) =
-    elim (eqb_tells byte 10) [ inl h ↦ rw h.0 refl | inr h ↦ rw h.0 (debug_behind bytes) ]
+pub debug_after : (text : List ℕ) → has_debug text ≡ debug_ahead (behind text)
+debug_after [] = refl
+debug_after (byte ∷ bytes) =
+    elim (eqb_tells byte 10) [ inl h ↦ rw h.0 refl | inr h ↦ rw h.0 (debug_after bytes) ]
 
 pub later_debug : (left : List ℕ) → is_some (after_line left) ≡ true → has_debug left ≡ debug_ahead (behind left)
 later_debug left ended = debug_later left (behind left) (some_by (after_line left) ended)
@@ -141,7 +141,7 @@ line_none version number text left place next part is same other (inr (inr twice
 
 -- the fault after some steps of a schedule
 pub schedule_fault : (version : Version) (text rest : List ℕ) (number : ℕ) (place : Place) (left : List ℕ) (next : TextLine) (fault : Fault) → SoFar kinds.Schedule version rest number place left → IsNext version number place left next
-    → IsFaultAt text place next fault → FaultsBehind kinds.Schedule version rest fault
+    → IsFaultAt text place next fault → FaultsAfter kinds.Schedule version rest fault
 schedule_fault version text rest number place left next fault so is at = record {
   before = so.0.steps;
   rest = left;
@@ -158,20 +158,20 @@ schedule_fault version text rest number place left next fault so is at = record 
       omega (arith, at.0, is.at, so.0.at),
       elim at.1 [
         | inl long ↦ inl (omega (arith, long, ap length is.bytes))
-        | inr many ↦ inr (full 4096 place.count (length so.0.steps) (omega arith) so.0.are.few so.0.stands.1 (part_many place parts.Step next.bytes.now so.0.stands.0 many).0)
+        | inr many ↦ inr (full 4096 place.count (length so.0.steps) (omega arith) so.0.are.few so.0.in_context.1 (part_many place parts.Step next.bytes.now so.0.in_context.0 many).0)
       ],
     )
     by (NotALine line) at = (
       omega (arith, at.0, is.at, so.0.at),
       omega (arith, at.1, ap length is.bytes),
-      room 4096 place.count (length so.0.steps) (omega arith) so.0.are.few so.0.stands.1 (λ enough. part_few place parts.Step next.bytes.now so.0.stands.0 at.2 (enough, other)),
-      elim (line_none version number text left place next parts.Step is so.0.stands.0 (λ same. absurd (cc)) at.3) [ inl none ↦ inl none | inr none ↦ inr none.0 ],
+      room 4096 place.count (length so.0.steps) (omega arith) so.0.are.few so.0.in_context.1 (λ enough. part_few place parts.Step next.bytes.now so.0.in_context.0 at.2 (enough, other)),
+      elim (line_none version number text left place next parts.Step is so.0.in_context.0 (λ same. absurd (cc)) at.3) [ inl none ↦ inl none | inr none ↦ inr none.0 ],
     )
     by _ at = at
 
 -- after some steps before commands
 before_fault : (version : Version) (text rest : List ℕ) (number : ℕ) (place : Place) (left : List ℕ) (next : TextLine) (fault : Fault) → StepsSoFar version rest number place left → IsNext version number place left next
-    → IsFaultAt text place next fault → FaultsBehind kinds.Walk version rest fault
+    → IsFaultAt text place next fault → FaultsAfter kinds.Walk version rest fault
 before_fault version text rest number place left next fault so is at = inl (record {
   before = so.steps;
   rest = left;
@@ -186,9 +186,9 @@ before_fault version text rest number place left next fault so is at = inl (reco
       elim at.1 [
         | inl long ↦ inl (omega (arith, long, ap length is.bytes))
         | inr many ↦
-            let over = part_many place parts.Step next.bytes.now so.stands.0 many in
+            let over = part_many place parts.Step next.bytes.now so.in_context.0 many in
             inr (record {
-              most = full 4096 place.count (length so.steps) (omega arith) so.are.few so.stands.1 over.0;
+              most = full 4096 place.count (length so.steps) (omega arith) so.are.few so.in_context.1 over.0;
               more = is.some;
               other = λ same. over.1 (is.bytes ∙ same);
             })
@@ -197,14 +197,14 @@ before_fault version text rest number place left next fault so is at = inl (reco
     by (NotALine line) at = (
       omega (arith, at.0, is.at, so.at),
       omega (arith, at.1, ap length is.bytes),
-      (λ past. part_few place parts.Step next.bytes.now so.stands.0 at.2 (omega (arith, past.most, so.stands.1), λ same. past.other (sym is.bytes ∙ same))),
-      line_none version number text left place next parts.Step is so.stands.0 (λ same. absurd (cc)) at.3,
+      (λ past. part_few place parts.Step next.bytes.now so.in_context.0 at.2 (omega (arith, past.most, so.in_context.1), λ same. past.other (sym is.bytes ∙ same))),
+      line_none version number text left place next parts.Step is so.in_context.0 (λ same. absurd (cc)) at.3,
     )
     by _ at = at
 
 -- after some commands
 command_fault : (version : Version) (text rest : List ℕ) (number : ℕ) (place : Place) (left : List ℕ) (next : TextLine) (fault : Fault) → CommandsSoFar version rest number place left → IsNext version number place left next
-    → IsFaultAt text place next fault → FaultsBehind kinds.Walk version rest fault
+    → IsFaultAt text place next fault → FaultsAfter kinds.Walk version rest fault
 command_fault version text rest number place left next fault so is at = inr (
   so.steps,
   lines_of command_text so.commands ++ left,
@@ -218,19 +218,19 @@ command_fault version text rest number place left next fault so is at = inr (
       omega (arith, at.0, is.at, so.at),
       elim at.1 [
         | inl long ↦ inl (omega (arith, long, ap length is.bytes))
-        | inr many ↦ inr (full 4096 place.count (length so.commands) (omega arith) so.are_commands.few so.stands.1 (part_many place parts.Command next.bytes.now so.stands.0 many))
+        | inr many ↦ inr (full 4096 place.count (length so.commands) (omega arith) so.are_commands.few so.in_context.1 (part_many place parts.Command next.bytes.now so.in_context.0 many))
       ],
     )
     by (NotALine line) at = (
       omega (arith, at.0, is.at, so.at),
       omega (arith, at.1, ap length is.bytes),
-      room 4096 place.count (length so.commands) (omega arith) so.are_commands.few so.stands.1 (part_few place parts.Command next.bytes.now so.stands.0 at.2),
-      line_none version number text left place next parts.Command is so.stands.0 (λ same. absurd (cc)) at.3,
+      room 4096 place.count (length so.commands) (omega arith) so.are_commands.few so.in_context.1 (part_few place parts.Command next.bytes.now so.in_context.0 at.2),
+      line_none version number text left place next parts.Command is so.in_context.0 (λ same. absurd (cc)) at.3,
     )
     by _ at = at
 
 pub walk_fault : (version : Version) (text rest : List ℕ) (number : ℕ) (place : Place) (left : List ℕ) (next : TextLine) (fault : Fault) → SoFar kinds.Walk version rest number place left → IsNext version number place left next
-    → IsFaultAt text place next fault → FaultsBehind kinds.Walk version rest fault
+    → IsFaultAt text place next fault → FaultsAfter kinds.Walk version rest fault
 walk_fault version text rest number place left next fault (inl so) is at = before_fault version text rest number place left next fault so.0 is at
 walk_fault version text rest number place left next fault (inr so) is at = command_fault version text rest number place left next fault so is at
 
@@ -240,7 +240,7 @@ pub record IsCounted (lines : List Line) (place : Place) : Type 0 where
   pub labels : place.labels ≡ counted (length (labels_of lines))
 
 pub counts_by : (version : Version) (rest : List ℕ) (number : ℕ) (place : Place) (left : List ℕ) (so : LinesSoFar version rest number place left) → IsCounted so.lines place
-counts_by version rest number place left so = elim so.stands [
+counts_by version rest number place left so = elim so.in_context [
   | inl is ↦ record { count = is.1; labels = is.2 }
   | inr link ↦ let bad : parts.ProgramLine ≡ parts.Link = sym so.part ∙ link in absurd (cc)
 ]
@@ -264,7 +264,7 @@ second_is line lines is =
 
 -- after some lines of a program
 pub program_fault : (version : Version) (text rest : List ℕ) (header : Header) (number : ℕ) (place : Place) (left : List ℕ) (next : TextLine) (fault : Fault) → SpellsHeader texts.Program text header rest → LinesSoFar version rest number place left
-    → IsNext version number place left next → IsFaultAt text place next fault → FaultsBehind kinds.Program version rest fault
+    → IsNext version number place left next → IsFaultAt text place next fault → FaultsAfter kinds.Program version rest fault
 program_fault version text rest header number place left next fault spells so is at = by fault at
   where
     counts : IsCounted so.lines place
@@ -294,7 +294,7 @@ program_fault version text rest header number place left next fault spells so is
     why (inr (inl none)) = inr (inl (subst (IsNoLineOf version) is.bytes (part_none version place parts.ProgramLine next.bytes.now is.of so.part none)))
     why (inr (inr second)) = inr (inr (twice second.1))
 
-    by : (f : Fault) → IsFaultAt text place next f → FaultsBehind kinds.Program version rest f
+    by : (f : Fault) → IsFaultAt text place next f → FaultsAfter kinds.Program version rest f
     by (TooLong line) at = record {
       before = so.lines;
       rest = left;

@@ -3,7 +3,7 @@ use Rattle.std.proofs.Common.{◌≡◌, ◌∙◌, ℕ, ◌<◌, List, ◌∷�
 use Rattle.std.proofs.lemmas.List.{length-map}
 use Rattle.tx_base.specs.declared.steps.Step.{Step}
 use Rattle.tx_check.proofs.EndedLines.{all_at, all_each, among, spelled_lines, AreLinesEach}
-use Rattle.tx_check.proofs.NextLines.{next_once, next_right, some_behind, IsRight}
+use Rattle.tx_check.proofs.NextLines.{next_once, next_right, some_after, IsRight}
 use Rattle.tx_check.proofs.OneFault.{IsFaulty, IsGrammar}
 use Rattle.tx_check.proofs.ShortLines.{short_step}
 use Rattle.tx_lines.specs.Lines.{step_text}
@@ -24,7 +24,7 @@ each_step version steps are = all_each (FitsStepOf version) step_text steps (λ 
 pub step_right : (version : Version) (step : Step) (rest behind : List ℕ) → FitsStepOf version step → first_line rest ≡ step_text step → after_line rest ≡ Some behind → IsRight (IsNoStep version) rest
 step_right version step rest behind fits line after = record {
   short = omega (arith, ap length line, (short_step step fits.fits).few);
-  ended = some_behind rest behind after;
+  ended = some_after rest behind after;
   some = λ none. none step fits.fits fits.of line;
 }
 

@@ -7,7 +7,7 @@ use Rattle.std.specs.List.{list_all}
 use Rattle.tx_base.specs.declared.steps.Step.{Step}
 use Rattle.tx_base.specs.declared.steps.Step.TheVariants as steps
 use Rattle.tx_check.proofs.EndedLines.{all_at, all_each, among, each_both, ends_both, heads_same, spelled_lines, with_ends, AreLinesEach}
-use Rattle.tx_check.proofs.NextLines.{next_once, next_right, some_behind}
+use Rattle.tx_check.proofs.NextLines.{next_once, next_right, some_after}
 use Rattle.tx_check.proofs.OneFault.{IsFaulty, IsGrammar}
 use Rattle.tx_check.proofs.ShortLines.{short_command}
 use Rattle.tx_check.proofs.SteppedTexts.{each_step, same_length, step_at, step_right, BeginsSteps, IsStepAt}
@@ -119,7 +119,7 @@ step_on version before line rest behind fault found is after faults =
 
 debug_on : (version : Version) (before : List (List ℕ)) (rest behind : List ℕ) (fault : Fault) → first_line rest ≡ debug_line → after_line rest ≡ Some behind → FaultsAfterBefore version before rest fault → ⊥
 debug_on version before rest behind fault is after faults =
-    before_right version (length faults.begins.steps) rest fault (omega (arith, ap length is)) (λ past. past.other is) (some_behind rest behind after) (λ none other. other is) faults.fault_after
+    before_right version (length faults.begins.steps) rest fault (omega (arith, ap length is)) (λ past. past.other is) (some_after rest behind after) (λ none other. other is) faults.fault_after
 
 -- a command that goes on
 command_on : (version : Version) (commands : List Command) (before : List (List ℕ)) (line : List ℕ) (more : List (List ℕ)) (number : ℕ) (rest behind : List ℕ) (fault : Fault) → AreCommands version commands → before ++ line ∷ more ≡ map command_text commands
@@ -138,7 +138,7 @@ command_on version commands before line more number rest behind fault are same i
     ) in
     next_right number (IsNoCommand version) (length before) rest fault (record {
       short = omega (arith, ap length spelled, (short_command version found.this fits).few);
-      ended = some_behind rest behind after;
+      ended = some_after rest behind after;
       some = λ none. none found.this fits spelled;
     }) few faults
 

@@ -7,31 +7,31 @@ use Rattle.tx_lines.specs.declared.faults.Fault.{Fault}
 use Rattle.tx_lines.specs.declared.faults.Fault.TheVariants.{TooLong, Reader, Writer, NoMemory}
 
 -- a text of no more bytes than one may have was left to read, and that is said of it
-pub record Hears (Says : List ℕ → List ℕ → Type 0) (left : Option (List ℕ)) (told : List ℕ) : Type 0 where
+pub record Hears (Says : List ℕ → List ℕ → Type 0) (left : Option (List ℕ)) (report : List ℕ) : Type 0 where
   pub text : List ℕ
   pub whole : IfSome left (λ bytes. bytes ≡ text)
   pub short : length text ≤ 1048576
-  pub said : Says text told
+  pub said : Says text report
 
 -- all that is told is written, and it is nothing exactly where that is answered
-pub record WritesTold (Says : List ℕ → List ℕ → Type 0) (left written : Option (List ℕ)) (is_read : Bool) (written' : Option (List ℕ)) : Type 0 where
-  pub told : List ℕ
-  pub hears : Hears Says left told
-  pub answer : is_read ≡ (length told == 0)
-  pub bytes : Appends written written' told
+pub record WritesReport (Says : List ℕ → List ℕ → Type 0) (left written : Option (List ℕ)) (is_read : Bool) (written' : Option (List ℕ)) : Type 0 where
+  pub report : List ℕ
+  pub hears : Hears Says left report
+  pub answer : is_read ≡ (length report == 0)
+  pub bytes : Appends written written' report
 
 -- so many bytes of what is told are written
 pub record WritesFront (Says : List ℕ → List ℕ → Type 0) (left written written' : Option (List ℕ)) : Type 0 where
-  pub told : List ℕ
+  pub report : List ℕ
   pub count : ℕ
-  pub hears : Hears Says left told
-  pub inside : count ≤ length told
-  pub bytes : Appends written written' (take count told)
+  pub hears : Hears Says left report
+  pub inside : count ≤ length report
+  pub bytes : Appends written written' (take count report)
 
 -- a text is read, and what is told of it written, or a front of that, or nothing, as the fault says
 abbrev pub Checks : (List ℕ → List ℕ → Type 0) → Option (List ℕ) → Counts → Option (List ℕ) → Counts → Result Bool Fault → Counts → Option (List ℕ) → Counts → Type 0
 Checks Says left reads written writes (Ok is_read) reads' written' writes' =
-    WritesTold Says left written is_read written' × IsCalm reads reads' × IsCalm writes writes'
+    WritesReport Says left written is_read written' × IsCalm reads reads' × IsCalm writes writes'
 Checks Says left reads written writes (Err (TooLong line)) reads' written' writes' =
     (line ≡ 0) × IfSome left (λ bytes. 1048576 < length bytes) × Keeps written written'
 Checks Says left reads written writes (Err Reader) reads' written' writes' =

@@ -1,7 +1,7 @@
 -- Which lines of a text are labels.
 use Rattle.std.specs.Prelude.{◌≡◌, ◌≢◌, ℕ, zero, suc, ◌+◌, ◌<◌, ◌≤◌, ◌^◌, List, [], ◌∷◌, ◌++◌, length, map, if◌then◌else◌}
 use Rattle.tx_check.specs.Numbered.{after_lines, behind, line_at}
-use Rattle.tx_check.specs.Stands.{begins_label}
+use Rattle.tx_check.specs.Contexts.{begins_label}
 use Rattle.tx_check.specs.declared.labels.LabelLine.{LabelLine}
 use Rattle.tx_check.specs.declared.labels.LabelPlace.{LabelPlace}
 use Rattle.tx_check.specs.declared.labels.Labels.{Labels}

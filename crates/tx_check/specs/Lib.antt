@@ -1,4 +1,4 @@
-pub mod Behind
+pub mod AfterHeader
 pub mod Command
 pub mod Heard
 pub mod Kinds
@@ -11,6 +11,6 @@ pub mod Reads
 pub mod Right
 pub mod Sessions
 pub mod Speaking
-pub mod Stands
-pub mod Told
+pub mod Contexts
+pub mod Diagnostics
 pub mod Wrong

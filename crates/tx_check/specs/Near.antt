@@ -4,7 +4,7 @@ use Rattle.std.specs.Str.{chars, IsUtf8}
 use Rattle.strsim.specs.Edits.{osa_table}
 use Rattle.tx_check.specs.Labels.{labels_in}
 use Rattle.tx_check.specs.Numbered.{after_lines}
-use Rattle.tx_check.specs.Stands.{begins_label}
+use Rattle.tx_check.specs.Contexts.{begins_label}
 use Rattle.tx_check.specs.declared.forms.TheConstants.{CALLS, COMMANDS, PIECES, SESSION}
 use Rattle.tx_check.specs.declared.near.NearName.{NearName}
 use Rattle.tx_check.specs.declared.near.NearName.TheVariants as nears

@@ -1,7 +1,7 @@
 -- How far a text is told of, by its own lines, and which line of what it means is told.
 use Rattle.std.specs.Prelude.{◌≡◌, ◌≢◌, ℕ, ◌-◌, ◌^◌, ◌<◌, ◌≤◌, List, [], ◌⊎◌}
 use Rattle.tx_check.specs.Numbered.{after_lines, line_at}
-use Rattle.tx_check.specs.Told.{TellsUpTo}
+use Rattle.tx_check.specs.Diagnostics.{ReportsUpTo}
 use Rattle.tx_check.specs.Wrong.{has_end, IsUnlinked, IsWrongThere}
 use Rattle.tx_check.specs.declared.own.TextFrom.{TextFrom}
 use Rattle.tx_check.specs.declared.places.Part.{Part}
@@ -22,14 +22,14 @@ IsWrongAfter part passed text number =
     (passed < number) × (number < 2 ^ 64) × (((part ≡ parts.Link) × IsUnlinked text number) ⊎ ((part ≢ parts.Link) × IsWrongThere text number))
 
 -- a text is told of up to its own line `last`, and of the lines that it means, behind so many and up to line `count`, none that is at fault is left out
-abbrev pub TellsBehind : Part → ℕ → ℕ → List ℕ → ℕ → ℕ → List ℕ → Type 0
-TellsBehind part passed count text first last told = TellsUpTo (λ number. (number ≤ count) × IsWrongAfter part passed (meant_of text) number) text first last told
+abbrev pub ReportsAfter : Part → ℕ → ℕ → List ℕ → ℕ → ℕ → List ℕ → Type 0
+ReportsAfter part passed count text first last report = ReportsUpTo (λ number. (number ≤ count) × IsWrongAfter part passed (meant_of text) number) text first last report
 
 -- a text that was told of up to one own line is told of up to the next, so that no line up to that one is left out that was to be told
 pub record GoesOnIn (part : Part) (text : List ℕ) (line : ℕ) (from next : TextFrom) (old new : List ℕ) : Type 0 where
   pub is : IsFrom text next
   pub up_to : next.number ≤ own_line text line
-  pub on : (passed first : ℕ) → TellsBehind part passed (line - 1) text first from.number old → TellsBehind part passed line text first next.number new
+  pub on : (passed first : ℕ) → ReportsAfter part passed (line - 1) text first from.number old → ReportsAfter part passed line text first next.number new
 
 -- so it is with each text that means those lines, of which that one comes from that own one, and that was told of up to there
 abbrev pub GoesOn : Part → MeantLines → ℕ → ℕ → TextFrom → TextFrom → List ℕ → List ℕ → Type 0
@@ -38,7 +38,7 @@ GoesOn part meant line own from next old new =
 
 -- it is the line of its number, which is there, behind the first
 pub record IsLineAt (text : List ℕ) (line : TextLine) : Type 0 where
-  pub behind_first : 2 ≤ line.number
+  pub past_first : 2 ≤ line.number
   pub there : after_lines (line.number - 1) text ≢ []
   pub bytes : line.bytes.now ≡ line_at line.number text
   pub ended : line.is_ended ≡ has_end line.number text

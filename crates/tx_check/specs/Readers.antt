@@ -2,7 +2,7 @@
 use Rattle.std.specs.Prelude.{◌≡◌, ℕ, List, [], ◌∷◌, ◌++◌, codes}
 use Rattle.tx_check.specs.Kinds.{kind_of}
 use Rattle.tx_check.specs.Reads.{line_of, IsAtFault, IsRead}
-use Rattle.tx_check.specs.Told.{IsToldBy}
+use Rattle.tx_check.specs.Diagnostics.{IsReportBy}
 use Rattle.tx_check.specs.Wrong.{IsWrongToo}
 use Rattle.tx_check.specs.declared.kinds.Kind.{Kind}
 use Rattle.tx_check.specs.declared.kinds.Kind.TheVariants.{Schedule, Walk, Program}
@@ -34,12 +34,12 @@ pub record IsWrongFor (kind : Kind) (text : List ℕ) (number : ℕ) : Type 0 wh
 
 -- what is told of a text that is to be of a kind: nothing exactly where it is read as that; else first the line of the fault at which it is found, and each line at fault behind
 -- that one where the text's own kind has its fault there too: where it has not, no other line is promised
-abbrev pub IsToldAs : Kind → List ℕ → List ℕ → Type 0
-IsToldAs kind text told = IsToldBy (IsRead kind (meant_of text)) (IsOwnFault (IsAtFault kind) text) (IsWrongFor kind (meant_of text)) text told
+abbrev pub IsReportAs : Kind → List ℕ → List ℕ → Type 0
+IsReportAs kind text report = IsReportBy (IsRead kind (meant_of text)) (IsOwnFault (IsAtFault kind) text) (IsWrongFor kind (meant_of text)) text report
 
 -- the same of a text for a command, which reads that kind
-abbrev pub IsToldFor : Reader → List ℕ → List ℕ → Type 0
-IsToldFor reader text told = IsToldAs (kind_read reader (meant_of text)) text told
+abbrev pub IsReportFor : Reader → List ℕ → List ℕ → Type 0
+IsReportFor reader text report = IsReportAs (kind_read reader (meant_of text)) text report
 
 -- as what a text was read
 abbrev pub heading : Kind → List ℕ
@@ -54,11 +54,11 @@ headed kind (byte ∷ bytes) = heading kind ++ (byte ∷ bytes)
 
 -- that is said where no command was named
 abbrev pub said_for : Reader → List ℕ → List ℕ → List ℕ
-said_for Any text told = headed (kind_of (meant_of text)) told
-said_for _ text told = told
+said_for Any text report = headed (kind_of (meant_of text)) report
+said_for _ text report = report
 
 -- what is told of a text for a command, with that before
 pub record IsSaidFor (reader : Reader) (text said : List ℕ) : Type 0 where
-  pub told : List ℕ
-  pub told_for : IsToldFor reader text told
-  pub spelled : said ≡ said_for reader text told
+  pub report : List ℕ
+  pub report_for : IsReportFor reader text report
+  pub spelled : said ≡ said_for reader text report

@@ -2,10 +2,10 @@
 use Rattle.std.specs.Prelude.{◌≡◌, ℕ, List, ◌++◌, codes}
 use Rattle.std.specs.Fmt.{decimal}
 use Rattle.tx_check.specs.Speaking.{SpeaksAt}
-use Rattle.tx_check.specs.Told.{IsColumn, IsInLine}
+use Rattle.tx_check.specs.Diagnostics.{IsColumn, IsInLine}
 
 -- a column of the line is told, and a sentence that speaks of the word there
-pub record IsSessionTold (line text : List ℕ) : Type 0 where
+pub record IsSessionDiagnostic (line text : List ℕ) : Type 0 where
   pub column : ℕ
   pub sentence : List ℕ
   pub inside : IsColumn line column

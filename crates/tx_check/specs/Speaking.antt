@@ -140,7 +140,7 @@ pub record IsOddSpace (line : List ℕ) (column : ℕ) : Type 0 where
   pub odd : (front ≡ []) ⊎ ((rest ≡ []) ⊎ ((others : List ℕ) × (rest ≡ 32 ∷ others)))
 
 -- no word is at that column, or behind it; a line may end with one byte 13
-pub record IsBehindWords (line : List ℕ) (column : ℕ) : Type 0 where
+pub record IsAfterWords (line : List ℕ) (column : ℕ) : Type 0 where
   pub front : List ℕ
   pub rest : List ℕ
   pub end : List ℕ
@@ -195,7 +195,7 @@ IsTrueOf OtherComment line column = IsAt line column (codes "//") ⊎ (IsAt line
 IsTrueOf Empty line column = line ≡ []
 IsTrueOf NoCommands line column = line ≡ []
 IsTrueOf Space line column = IsOddSpace line column
-IsTrueOf NoCall line column = IsBehindWords line column
+IsTrueOf NoCall line column = IsAfterWords line column
 IsTrueOf CommandTooSoon line column = IsCommandAt line column
 IsTrueOf StepInProgram line column = IsStepAt line column
 IsTrueOf StepAmongCommands line column = IsStepAt line column
@@ -249,7 +249,7 @@ abbrev pub no_label : List ℕ
 no_label = codes "no such label: "
 
 -- the sentence speaks of that word behind that front
-pub record SpeaksBehind (front word sentence : List ℕ) : Type 0 where
+pub record SpeaksAfter (front word sentence : List ℕ) : Type 0 where
   pub after : List ℕ
   pub spelled : sentence ≡ front ++ (said_word word ++ after)
   pub ends : is_after after ≡ true
@@ -260,7 +260,7 @@ pub record SpeaksOfOther (sentence : List ℕ) : Type 0 where
   pub word : List ℕ
   pub known : is_front front ≡ true
   pub other : front ≢ no_label
-  pub speaks : SpeaksBehind front word sentence
+  pub speaks : SpeaksAfter front word sentence
 
 -- the sentence is that of a trouble of that kind with a line
 pub record SaysOfKind (kind : FaultKind) (sentence : List ℕ) : Type 0 where
@@ -271,7 +271,7 @@ pub record SaysOfKind (kind : FaultKind) (sentence : List ℕ) : Type 0 where
 -- the sentence is of that kind: of a label begins `no such label: `; of a length has a sentence of its own; of the grammar is any other
 abbrev pub IsOfKind : FaultKind → List ℕ → Type 0
 IsOfKind OfGrammar sentence = SaysOfKind OfGrammar sentence ⊎ (((byte : ℕ) × SpeaksOfByte byte sentence) ⊎ SpeaksOfOther sentence)
-IsOfKind OfLabel sentence = (word : List ℕ) × SpeaksBehind no_label word sentence
+IsOfKind OfLabel sentence = (word : List ℕ) × SpeaksAfter no_label word sentence
 IsOfKind OfLength sentence = SaysOfKind OfLength sentence
 
 -- what is told of a line has that kind there: too long, or one too many; of a label, where a line is right that is to name one; else none of the

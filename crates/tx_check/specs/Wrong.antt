@@ -3,7 +3,7 @@ use Rattle.std.specs.Prelude.{◌≡◌, ◌≢◌, ℕ, ◌-◌, ◌<◌, ◌�
 use Rattle.tx_check.specs.Kinds.{front_word, head_of, kind_of}
 use Rattle.tx_check.specs.Numbered.{after_lines, line_at}
 use Rattle.tx_check.specs.Reads.{IsAtFault}
-use Rattle.tx_check.specs.Stands.{stand_behind, AmongCommands, AmongLines, AmongSteps, AtHeader, IsVersionOf, Stand}
+use Rattle.tx_check.specs.Contexts.{context_after, AmongCommands, AmongLines, AmongSteps, AtHeader, Context, IsVersionOf}
 use Rattle.tx_lines.specs.Programs.{label_front, label_in, line_text, BeginsLabel, IsLineOf, IsNoLineOf}
 use Rattle.tx_lines.specs.Schedule.{after_line, first_line}
 use Rattle.tx_lines.specs.Walks.{debug_line, IsNoCommand, IsNoLineBefore}
@@ -15,7 +15,7 @@ use Rattle.tx_lines.specs.declared.instructions.Name.{Name}
 use Rattle.tx_lines.specs.declared.read.header.Version.{Version}
 
 -- the line is one too many there
-abbrev pub IsOneTooMany : Stand → List ℕ → Type 0
+abbrev pub IsOneTooMany : Context → List ℕ → Type 0
 IsOneTooMany (AtHeader kind) line = ⊥
 IsOneTooMany (AmongSteps steps) line = (4096 ≤ steps) × (line ≢ debug_line)
 IsOneTooMany (AmongCommands commands) line = 4096 ≤ commands
@@ -23,10 +23,10 @@ IsOneTooMany (AmongLines instructions labels) line = ((256 ≤ labels) × Begins
 
 -- the line behind so many is
 abbrev pub IsTooManyAfter : List ℕ → ℕ → Type 0
-IsTooManyAfter text count = IsOneTooMany (stand_behind (kind_of text) text count) (first_line (after_lines count text))
+IsTooManyAfter text count = IsOneTooMany (context_after (kind_of text) text count) (first_line (after_lines count text))
 
 -- the line is none that the grammar has there; nothing is said of headers
-abbrev pub IsNoneIn : Version → Stand → List ℕ → Type 0
+abbrev pub IsNoneIn : Version → Context → List ℕ → Type 0
 IsNoneIn version (AtHeader kind) line = Unit {0}
 IsNoneIn version (AmongSteps steps) line = IsNoLineBefore version line
 IsNoneIn version (AmongCommands commands) line = IsNoCommand version line
@@ -41,7 +41,7 @@ pub record IsTwice (text : List ℕ) (number : ℕ) (line : List ℕ) : Type 0 w
   pub same : line_at earlier text ≡ line
 
 -- so it is among the lines of a program
-abbrev pub IsSecondIn : Stand → List ℕ → ℕ → List ℕ → Type 0
+abbrev pub IsSecondIn : Context → List ℕ → ℕ → List ℕ → Type 0
 IsSecondIn (AmongLines instructions labels) text number line = IsTwice text number line
 IsSecondIn _ text number line = ⊥
 
@@ -59,16 +59,16 @@ pub record NamesNowhere (text line : List ℕ) : Type 0 where
   pub nowhere : (number : ℕ) → line_at number text ≢ label_front ++ name
 
 -- the line of that number is at fault where the text stands so, whatever label it names
-pub data IsWrongIn (version : Version) (text : List ℕ) (number : ℕ) (stand : Stand) (line : List ℕ) (is_ended : Bool) : Type 0 where
-  TooLong : 512 < length line → IsWrongIn version text number stand line is_ended
-  NoEnd : is_ended ≡ false → IsWrongIn version text number stand line is_ended
-  TooMany : IsOneTooMany stand line → IsWrongIn version text number stand line is_ended
-  Other : IsNoneIn version stand line → IsWrongIn version text number stand line is_ended
-  Second : IsSecondIn stand text number line → IsWrongIn version text number stand line is_ended
+pub data IsWrongIn (version : Version) (text : List ℕ) (number : ℕ) (context : Context) (line : List ℕ) (is_ended : Bool) : Type 0 where
+  TooLong : 512 < length line → IsWrongIn version text number context line is_ended
+  NoEnd : is_ended ≡ false → IsWrongIn version text number context line is_ended
+  TooMany : IsOneTooMany context line → IsWrongIn version text number context line is_ended
+  Other : IsNoneIn version context line → IsWrongIn version text number context line is_ended
+  Second : IsSecondIn context text number line → IsWrongIn version text number context line is_ended
 
 -- so it is, or it names a label that is nowhere
-abbrev pub IsWrong : Version → List ℕ → ℕ → Stand → List ℕ → Bool → Type 0
-IsWrong version text number stand line is_ended = IsWrongIn version text number stand line is_ended ⊎ NamesNowhere text line
+abbrev pub IsWrong : Version → List ℕ → ℕ → Context → List ℕ → Bool → Type 0
+IsWrong version text number context line is_ended = IsWrongIn version text number context line is_ended ⊎ NamesNowhere text line
 
 -- whether the line of that number has an end
 abbrev pub has_end : ℕ → List ℕ → Bool
@@ -76,18 +76,18 @@ has_end number text = is_some (after_line (after_lines (number - 1) text))
 
 -- the line of that number is there, behind the first, and is at fault
 pub record IsWrongLine (text : List ℕ) (number : ℕ) : Type 0 where
-  pub behind_first : 2 ≤ number
+  pub past_first : 2 ≤ number
   pub there : after_lines (number - 1) text ≢ []
   pub version : Version
   pub of_text : IsVersionOf (head_of (kind_of text)) text version
-  pub wrong : IsWrong version text number (stand_behind (kind_of text) text (number - 1)) (line_at number text) (has_end number text)
+  pub wrong : IsWrong version text number (context_after (kind_of text) text (number - 1)) (line_at number text) (has_end number text)
 
 -- the line of that number is there and is at fault in its place, whatever label it names; and no line before it is one too many
 pub record IsWrongThere (text : List ℕ) (number : ℕ) : Type 0 where
   pub there : after_lines (number - 1) text ≢ []
   pub version : Version
   pub of_text : IsVersionOf (head_of (kind_of text)) text version
-  pub wrong : IsWrongIn version text number (stand_behind (kind_of text) text (number - 1)) (line_at number text) (has_end number text)
+  pub wrong : IsWrongIn version text number (context_after (kind_of text) text (number - 1)) (line_at number text) (has_end number text)
   pub none_too_many : (count : ℕ) → count < number - 1 → IsTooManyAfter text count → ⊥
 
 -- the line names a label, and no line of the text is that label
@@ -119,7 +119,7 @@ pub record IsNoLineIn (text : List ℕ) (number : ℕ) : Type 0 where
   pub room : IsTooManyAfter text (number - 1) → ⊥
   pub version : Version
   pub of_text : IsVersionOf (head_of (kind_of text)) text version
-  pub wrong : IsWrongIn version text number (stand_behind (kind_of text) text (number - 1)) (line_at number text) (has_end number text)
+  pub wrong : IsWrongIn version text number (context_after (kind_of text) text (number - 1)) (line_at number text) (has_end number text)
 
 -- it is right but for its label, which is nowhere
 pub record IsNoLabelIn (text : List ℕ) (number : ℕ) : Type 0 where
@@ -135,14 +135,14 @@ IsFaultIn text (faults.NoLabel line) = IsNoLabelIn text line
 IsFaultIn text _ = ⊥
 
 -- behind the line of that fault of the text the line of that number is at fault too: where the fault is a label that is nowhere, by its label; else in its place
-abbrev pub IsWrongBehind : Fault → List ℕ → ℕ → Type 0
-IsWrongBehind (faults.NotALine line) text number = (line < number) × IsWrongThere text number
-IsWrongBehind (faults.TooLong line) text number = (line < number) × IsWrongThere text number
-IsWrongBehind (faults.NoLabel line) text number = (line < number) × IsUnlinked text number
-IsWrongBehind _ text number = ⊥
+abbrev pub IsWrongAfterFault : Fault → List ℕ → ℕ → Type 0
+IsWrongAfterFault (faults.NotALine line) text number = (line < number) × IsWrongThere text number
+IsWrongAfterFault (faults.TooLong line) text number = (line < number) × IsWrongThere text number
+IsWrongAfterFault (faults.NoLabel line) text number = (line < number) × IsUnlinked text number
+IsWrongAfterFault _ text number = ⊥
 
 -- the text is at fault, and so is the line of that number, behind the line of the fault
 pub record IsWrongToo (text : List ℕ) (number : ℕ) : Type 0 where
   pub fault : Fault
   pub is_fault : IsAtFault (kind_of text) text fault
-  pub too : IsWrongBehind fault text number
+  pub too : IsWrongAfterFault fault text number

@@ -1,16 +1,16 @@
 //! Tells of a text what is wrong with it.
 ghost use Rattle.std.specs.Prelude.{◌≡◌, ◌≢◌, ◌⊎◌, ◌+◌, ◌-◌, ◌<◌, ◌≤◌, ℕ, List, IfOk, OnOk, length, string_bytes};
-ghost use Rattle.tx_check.specs.Behind.{IsQuietAt};
+ghost use Rattle.tx_check.specs.AfterHeader.{IsQuietAt};
 ghost use Rattle.tx_check.specs.Kinds.{kind_of};
 ghost use Rattle.tx_check.specs.Labels.{AreKnown};
 ghost use Rattle.tx_check.specs.Numbered.{after_lines};
-ghost use Rattle.tx_check.specs.OwnLines.{GoesOn, IsFrom, IsLineAt, IsWrongAfter, TellsBehind};
+ghost use Rattle.tx_check.specs.OwnLines.{GoesOn, IsFrom, IsLineAt, IsWrongAfter, ReportsAfter};
 ghost use Rattle.tx_check.specs.Reads as spec;
 ghost use Rattle.tx_check.specs.Reads.{Finds, IsAtFault};
-ghost use Rattle.tx_check.specs.Stands.{StandsAt};
+ghost use Rattle.tx_check.specs.Contexts.{IsPlaceAt};
 ghost use Rattle.tx_check.specs.Speaking.{kind_of_what, IsKindAt};
-ghost use Rattle.tx_check.specs.Told.{kind_of_fault, BeginsOfKind, Grows, IsMeantFault, IsToldOf, TellsFrom};
-ghost use Rattle.tx_check.specs.Wrong.{IsFaultIn, IsWrongBehind};
+ghost use Rattle.tx_check.specs.Diagnostics.{kind_of_fault, BeginsOfKind, Grows, IsMeantFault, IsReportOf, ReportsFrom};
+ghost use Rattle.tx_check.specs.Wrong.{IsFaultIn, IsWrongAfterFault};
 ghost use Rattle.tx_check.specs.declared.kinds.Kind.TheVariants as kinds;
 ghost use Rattle.tx_check.specs.declared.places.Part.TheVariants as parts;
 ghost use Rattle.tx_check.specs.declared.trouble.LineTrouble.TheVariants as troubles;
@@ -21,13 +21,13 @@ ghost use Rattle.tx_translate.specs.Meant.{fault_by, meant_of, own_line};
 ghost use Rattle.tx_translate.specs.MeantLines.{left_of, OwnsFrom};
 
 use crate::diagnose::{trouble_of, unknown};
+use crate::diagnostics::put_diagnostic;
 use crate::faults::first_fault;
 use crate::kinds::{Kind, kind_of};
 use crate::labels::Labels;
 use crate::own::{TextFrom, own_trouble};
 use crate::places::{Part, Place, TextLine};
 use crate::right::right_kind;
-use crate::tell::tell;
 use crate::trouble::Trouble;
 use std::alloc::Global;
 use tx_base::NoMemory;
@@ -50,33 +50,33 @@ use tx_translate::{MeantLines, Room};
 /// A text that is right is read once. Where memory for that is refused, it is done without: the only error
 /// is that a growth of what is told was refused.
 pub fn check_text(alloc: Global, text: &[u8]) -> Result<String, NoMemory>
-    ensures told { IfOk result (λ told. IsToldOf text.now (string_bytes told)) }
-    ensures kind { IfOk result (λ told. (fault : Fault) → IsMeantFault text.now fault →
-        BeginsOfKind (kind_of_fault fault) (string_bytes told)) }
+    ensures report { IfOk result (λ report. IsReportOf text.now (string_bytes report)) }
+    ensures kind { IfOk result (λ report. (fault : Fault) → IsMeantFault text.now fault →
+        BeginsOfKind (kind_of_fault fault) (string_bytes report)) }
 {
     match right_kind(alloc, text) {
         Some(_kind) => Ok(String::new(alloc)),
-        None => tell_text(alloc, text),
+        None => report_text(alloc, text),
     }
 }
 
 /// As `check_text`. Memory is taken for what is told alone.
-pub fn tell_text(alloc: Global, text: &[u8]) -> Result<String, NoMemory>
-    ensures told { IfOk result (λ told. IsToldOf text.now (string_bytes told)) }
-    ensures kind { IfOk result (λ told. (fault : Fault) → IsMeantFault text.now fault →
-        BeginsOfKind (kind_of_fault fault) (string_bytes told)) }
+pub fn report_text(alloc: Global, text: &[u8]) -> Result<String, NoMemory>
+    ensures report { IfOk result (λ report. IsReportOf text.now (string_bytes report)) }
+    ensures kind { IfOk result (λ report. (fault : Fault) → IsMeantFault text.now fault →
+        BeginsOfKind (kind_of_fault fault) (string_bytes report)) }
 {
     let meant = Labels::of(MeantLines::of(text));
     let kind = kind_of(meant.text);
     match first_fault(kind, &meant) {
-        Some(fault) => tell_from(alloc, kind, text, &meant, fault),
+        Some(fault) => report_from(alloc, kind, text, &meant, fault),
         None => Ok(String::new(alloc)),
     }
 }
 
 /// What is told of a text that means those lines, which are at fault: the line of the fault, and the
 /// lines behind it.
-pub fn tell_from(
+pub fn report_from(
     alloc: Global,
     kind: Kind,
     text: &[u8],
@@ -90,10 +90,10 @@ pub fn tell_from(
     requires fault { IsAtFault kind (left_of meant.now.text) fault }
     requires there { IsFaultIn (left_of meant.now.text) fault }
     requires own { 1 ≤ own_line text.now (spec.line_of fault) }
-    ensures tells { IfOk result (λ told. TellsFrom (IsWrongBehind fault (meant_of text.now)) text.now
-        (own_line text.now (spec.line_of fault)) (string_bytes told)) }
-    ensures kind { IfOk result (λ told. BeginsOfKind
-        (kind_of_fault (fault_by (own_line text.now) fault)) (string_bytes told)) }
+    ensures reports { IfOk result (λ report. ReportsFrom (IsWrongAfterFault fault (meant_of text.now)) text.now
+        (own_line text.now (spec.line_of fault)) (string_bytes report)) }
+    ensures kind { IfOk result (λ report. BeginsOfKind
+        (kind_of_fault (fault_by (own_line text.now) fault)) (string_bytes report)) }
 {
     let (place, lines) = place_of(kind, meant.text, fault);
     let (line, behind) = lines.cut();
@@ -107,13 +107,13 @@ pub fn tell_from(
     let own = TextFrom::first(text).moved_to(line.number);
     let own_line = own.line();
     let trouble = trouble_at_fault(meant.text, meant, &place, faulty);
-    let mut told = String::new(alloc);
+    let mut report = String::new(alloc);
     let is_third = meant.text.are_third();
     let trouble = own_trouble(is_third, place.part, faulty.bytes, own_line.bytes, trouble);
-    tell(alloc, &mut told, own_line, trouble)?;
+    put_diagnostic(alloc, &mut report, own_line, trouble)?;
     let place = place.after(faulty.bytes);
-    tell_behind(alloc, meant, place, number, behind, own, &mut told)?;
-    Ok(told)
+    report_after(alloc, meant, place, number, behind, own, &mut report)?;
+    Ok(report)
 }
 
 /// What is told of the line at fault.
@@ -149,7 +149,7 @@ pub fn line_of(fault: Fault) -> u64
 fn place_of(kind: Kind, text: MeantLines<'_>, fault: Fault) -> (Place, MeantLines<'_>)
     requires kind { kind ≡ kind_of (left_of text) }
     requires fault { IsAtFault kind (left_of text) fault }
-    ensures place { StandsAt (left_of text.entry) (spec.line_of fault) result.0 }
+    ensures place { IsPlaceAt (left_of text.entry) (spec.line_of fault) result.0 }
     ensures left { left_of result.1 ≡ after_lines (spec.line_of fault - 1) (left_of text.entry) }
     ensures numbered { (own : List ℕ) → OwnsFrom own 1 text.entry →
         OwnsFrom own (spec.line_of fault) result.1 }
@@ -185,28 +185,28 @@ fn place_by(fault: Fault, place: Place) -> Place
 /// Tells of the lines behind so many that are meant, where they are at fault: up to the first one
 /// that is one too many. The first behind them stands at that place. The text itself was told of up
 /// to a line of its own.
-fn tell_behind(
+fn report_after(
     alloc: Global,
     meant: &Labels<'_>,
     place: Place,
     passed: u64,
     lines: MeantLines<'_>,
     own: TextFrom<'_>,
-    told: &mut String,
+    report: &mut String,
 ) -> Result<(), NoMemory>
     requires known { AreKnown meant.now }
-    requires place { StandsAt (left_of meant.now.text) (passed + 1) place }
+    requires place { IsPlaceAt (left_of meant.now.text) (passed + 1) place }
     requires lines { left_of lines ≡ after_lines passed (left_of meant.now.text) }
     requires some { 1 ≤ passed }
-    ensures tells { OnOk result
+    ensures reports { OnOk result
         ((text : List ℕ) (first : ℕ) → left_of meant.now.text ≡ meant_of text →
         OwnsFrom text (passed + 1) lines.entry → IsFrom text own.entry →
         own.entry.number ≤ own_line text passed →
-        TellsBehind place.part passed passed text first own.entry.number
-        (string_bytes told.old) →
-        TellsFrom (IsWrongAfter place.part passed (meant_of text)) text first
-        (string_bytes told.new)) }
-    ensures grows { OnOk result (Grows (string_bytes told.old) (string_bytes told.new)) }
+        ReportsAfter place.part passed passed text first own.entry.number
+        (string_bytes report.old) →
+        ReportsFrom (IsWrongAfter place.part passed (meant_of text)) text first
+        (string_bytes report.new)) }
+    ensures grows { OnOk result (Grows (string_bytes report.old) (string_bytes report.new)) }
 {
     let mut place = place;
     let mut reached = own;
@@ -224,7 +224,7 @@ fn tell_behind(
             bytes: line.meaning(&mut room),
             is_ended: line.is_ended,
         };
-        reached = tell_line(alloc, meant, &place, next, line.number, reached, told)?;
+        reached = report_line(alloc, meant, &place, next, line.number, reached, report)?;
         place = place.after(next.bytes);
         left = behind;
     }
@@ -233,22 +233,22 @@ fn tell_behind(
 
 /// Tells of a line that is meant by the text's own one of that number, at that place, where it is at
 /// fault. Says how far the text itself is told of then.
-fn tell_line<'a>(
+fn report_line<'a>(
     alloc: Global,
     meant: &Labels<'_>,
     place: &Place,
     line: TextLine<'_>,
     number: u64,
     own: TextFrom<'a>,
-    told: &mut String,
+    report: &mut String,
 ) -> Result<TextFrom<'a>, NoMemory>
     requires known { AreKnown meant.now }
-    requires place { StandsAt (left_of meant.now.text) line.number place.now }
+    requires place { IsPlaceAt (left_of meant.now.text) line.number place.now }
     requires line { IsLineAt (left_of meant.now.text) line }
     ensures goes { IfOk result (λ next.
         GoesOn place.now.part meant.now.text line.entry.number number own.entry next
-        (string_bytes told.old) (string_bytes told.new)) }
-    ensures grows { OnOk result (Grows (string_bytes told.old) (string_bytes told.new)) }
+        (string_bytes report.old) (string_bytes report.new)) }
+    ensures grows { OnOk result (Grows (string_bytes report.old) (string_bytes report.new)) }
 {
     let Some(trouble) = trouble_of(meant.text, meant, place, line) else {
         return Ok(own);
@@ -260,6 +260,6 @@ fn tell_line<'a>(
     let own_line = next.line();
     let is_third = meant.text.are_third();
     let trouble = own_trouble(is_third, place.part, line.bytes, own_line.bytes, trouble);
-    tell(alloc, told, own_line, trouble)?;
+    put_diagnostic(alloc, report, own_line, trouble)?;
     Ok(next)
 }

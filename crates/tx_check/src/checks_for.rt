@@ -1,15 +1,16 @@
 //! Tells of a text what is wrong with it for one of the commands.
 ghost use Rattle.std.specs.Prelude.{◌≡◌, ◌≢◌, ◌≤◌, Some, IfNone, IfOk, IfSome, ℕ, List, string_bytes};
 ghost use Rattle.tx_check.specs.Kinds as kinds_spec;
-ghost use Rattle.tx_check.specs.Readers.{IsSaidFor, IsToldAs, IsToldFor};
+ghost use Rattle.tx_check.specs.Readers.{IsReportAs, IsReportFor, IsSaidFor};
 ghost use Rattle.tx_lines.specs.declared.faults.Fault.{Fault};
 ghost use Rattle.tx_check.specs.Readers as spec;
 ghost use Rattle.tx_check.specs.Reads as reads;
 ghost use Rattle.tx_check.specs.Reads.{IsAtFault};
-ghost use Rattle.tx_check.specs.Told.{TellsFrom};
+ghost use Rattle.tx_check.specs.Diagnostics.{ReportsFrom};
 ghost use Rattle.tx_translate.specs.Meant.{meant_of, own_line};
 
-use crate::checks::{line_of, tell_from, tell_text};
+use crate::checks::{line_of, report_from, report_text};
+use crate::diagnostics::put_diagnostic;
 use crate::faults::first_fault;
 use crate::kinds::{Kind, kind_of};
 use crate::labels::Labels;
@@ -17,7 +18,6 @@ use crate::own::{TextFrom, own_word};
 use crate::reader_faults::fault_in;
 use crate::readers::{Reader, heading, kind_trouble};
 use crate::right::right_kind;
-use crate::tell::tell;
 use crate::trouble::{LineTrouble, Trouble};
 use std::alloc::{AllocError, Global};
 use tx_base::NoMemory;
@@ -34,30 +34,30 @@ use tx_translate::{Meant, MeantLines};
 pub fn check_text_for(alloc: Global, reader: Reader, text: &[u8]) -> Result<String, NoMemory>
     ensures { IfOk result (λ said. IsSaidFor reader text.now (string_bytes said)) }
 {
-    let told = told_for(alloc, reader, text)?;
+    let report = report_for(alloc, reader, text)?;
     match reader {
-        Reader::Any => Ok(headed(alloc, text, told)?),
-        _ => Ok(told),
+        Reader::Any => Ok(headed(alloc, text, report)?),
+        _ => Ok(report),
     }
 }
 
 /// Puts what a text was read as before what is told of it.
-fn headed(alloc: Global, text: &[u8], told: String) -> Result<String, AllocError>
+fn headed(alloc: Global, text: &[u8], report: String) -> Result<String, AllocError>
     ensures { IfOk result (λ said. string_bytes said
-        ≡ spec.headed (kinds_spec.kind_of (meant_of text.now)) (string_bytes told)) }
+        ≡ spec.headed (kinds_spec.kind_of (meant_of text.now)) (string_bytes report)) }
 {
-    if told.is_empty() {
-        return Ok(told);
+    if report.is_empty() {
+        return Ok(report);
     }
     let mut said = String::new(alloc);
     put(&mut said, heading(kind_of(MeantLines::of(text))))?;
-    put(&mut said, told.as_str())?;
+    put(&mut said, report.as_str())?;
     Ok(said)
 }
 
 /// What is told of a text for that command.
-fn told_for(alloc: Global, reader: Reader, text: &[u8]) -> Result<String, NoMemory>
-    ensures { IfOk result (λ told. IsToldFor reader text.now (string_bytes told)) }
+fn report_for(alloc: Global, reader: Reader, text: &[u8]) -> Result<String, NoMemory>
+    ensures { IfOk result (λ report. IsReportFor reader text.now (string_bytes report)) }
 {
     if let Some(kind) = right_kind(alloc, text)
         && reader.kind(kind) == kind
@@ -65,30 +65,30 @@ fn told_for(alloc: Global, reader: Reader, text: &[u8]) -> Result<String, NoMemo
         return Ok(String::new(alloc));
     }
     let meant = kind_of(MeantLines::of(text));
-    told_as(alloc, reader.kind(meant), meant, text)
+    report_as(alloc, reader.kind(meant), meant, text)
 }
 
 /// What is told of a text that is to be of a kind, and is meant to be of that other one.
-fn told_as(alloc: Global, kind: Kind, meant: Kind, text: &[u8]) -> Result<String, NoMemory>
+fn report_as(alloc: Global, kind: Kind, meant: Kind, text: &[u8]) -> Result<String, NoMemory>
     requires { meant ≡ kinds_spec.kind_of (meant_of text.now) }
-    ensures { IfOk result (λ told. IsToldAs kind text.now (string_bytes told)) }
+    ensures { IfOk result (λ report. IsReportAs kind text.now (string_bytes report)) }
 {
     if kind == meant {
-        tell_text(alloc, text)
+        report_text(alloc, text)
     } else {
-        told_as_other(alloc, kind, text)
+        report_as_other(alloc, kind, text)
     }
 }
 
 /// What is told of a text that is to be of a kind, by the reader of that kind.
-fn told_as_other(alloc: Global, kind: Kind, text: &[u8]) -> Result<String, NoMemory>
-    ensures { IfOk result (λ told. IsToldAs kind text.now (string_bytes told)) }
+fn report_as_other(alloc: Global, kind: Kind, text: &[u8]) -> Result<String, NoMemory>
+    ensures { IfOk result (λ report. IsReportAs kind text.now (string_bytes report)) }
 {
     let meant = Meant::by(alloc, text)?;
     match fault_in(alloc, kind, meant.as_bytes())? {
         Some(fault) => {
             let number = meant.own_line(line_of(fault));
-            tell_fault(alloc, kind, text, fault, number)
+            report_fault(alloc, kind, text, fault, number)
         }
         None => Ok(String::new(alloc)),
     }
@@ -96,7 +96,7 @@ fn told_as_other(alloc: Global, kind: Kind, text: &[u8]) -> Result<String, NoMem
 
 /// What is told of a text that is at fault for the reader of that kind. The line of the fault has that
 /// number in the text itself.
-fn tell_fault(
+fn report_fault(
     alloc: Global,
     kind: Kind,
     text: &[u8],
@@ -105,15 +105,15 @@ fn tell_fault(
 ) -> Result<String, NoMemory>
     requires fault { IsAtFault kind (meant_of text.now) fault }
     requires number { number ≡ own_line text.now (reads.line_of fault) }
-    ensures { IfOk result (λ told. IsToldAs kind text.now (string_bytes told)) }
+    ensures { IfOk result (λ report. IsReportAs kind text.now (string_bytes report)) }
 {
     let meant = Labels::of(MeantLines::of(text));
     let own = kind_of(meant.text);
     match same_line(first_fault(own, &meant), fault) {
-        Some(other) => tell_from(alloc, own, text, &meant, other),
+        Some(other) => report_from(alloc, own, text, &meant, other),
         None => {
             let (trouble, place) = kind_trouble(kind, own);
-            tell_alone(alloc, text, number, trouble, place)
+            report_alone(alloc, text, number, trouble, place)
         }
     }
 }
@@ -130,7 +130,7 @@ fn same_line(found: Option<Fault>, other: Fault) -> Option<Fault>
 }
 
 /// Tells of a line alone what is wrong with the text there, at the word in that place of it.
-fn tell_alone(
+fn report_alone(
     alloc: Global,
     text: &[u8],
     number: u64,
@@ -138,11 +138,11 @@ fn tell_alone(
     place: usize,
 ) -> Result<String, NoMemory>
     requires { 1 ≤ number }
-    ensures { IfOk result (λ told. TellsFrom (λ line. ⊥) text.now number (string_bytes told)) }
+    ensures { IfOk result (λ report. ReportsFrom (λ line. ⊥) text.now number (string_bytes report)) }
 {
     let line = TextFrom::first(text).moved_to(number).line();
     let column = own_word(line.bytes, place).map_or(1, |word| word.column);
-    let mut told = String::new(alloc);
-    tell(alloc, &mut told, line, Trouble::of_line(column, trouble))?;
-    Ok(told)
+    let mut report = String::new(alloc);
+    put_diagnostic(alloc, &mut report, line, Trouble::of_line(column, trouble))?;
+    Ok(report)
 }

@@ -39,8 +39,8 @@ pub fn check_for<S: Source, W: Sink>(
         (W.written sink.new) (W.counts sink.new) }
 {
     let text = read_whole(alloc, source)?;
-    let told = check_text_for(alloc, reader, text.as_slice())?;
-    let bytes = told.as_bytes();
+    let report = check_text_for(alloc, reader, text.as_slice())?;
+    let bytes = report.as_bytes();
     write_whole(sink, bytes)?;
     Ok(bytes.is_empty())
 }

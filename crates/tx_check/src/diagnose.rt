@@ -2,7 +2,7 @@
 ghost use Rattle.std.specs.Prelude.{◌≡◌, ◌≤◌, ◌⊎◌, ◌<◌, IfNone, IfSome, IsFalse, IsTrue, false, length};
 ghost use Rattle.tx_check.specs.Labels.{AreKnown};
 ghost use Rattle.tx_check.specs.Right.{IsNoneThere, IsRight, IsTooMany};
-ghost use Rattle.tx_check.specs.Stands.{IsPlaceOf, Stand};
+ghost use Rattle.tx_check.specs.Contexts.{Context, IsPlaceOf};
 ghost use Rattle.tx_check.specs.Speaking.{kind_of_what, IsKindAt, OfGrammar, OfLabel};
 ghost use Rattle.tx_check.specs.Wrong.{IsLinkedLine, IsTwice, IsWrong, NamesNowhere};
 ghost use Rattle.tx_check.specs.declared.places.Part.TheVariants as parts;
@@ -53,8 +53,8 @@ pub fn trouble_of<'a>(
         IsTwice (left_of text.now.text) line.entry.number line.entry.bytes.now → ⊥) }
     ensures linked { IfNone result (place.now.part ≡ parts.Link →
         IsLinkedLine place.now.version (left_of text.now.text) line.entry.bytes.now) }
-    ensures wrong { IfSome result (λ trouble. (stand : Stand) → IsPlaceOf stand place.now →
-        IsWrong place.now.version (left_of text.now.text) line.entry.number stand
+    ensures wrong { IfSome result (λ trouble. (context : Context) → IsPlaceOf context place.now →
+        IsWrong place.now.version (left_of text.now.text) line.entry.number context
         line.entry.bytes.now line.entry.is_ended) }
     ensures kind { IfSome result (λ trouble. IsKindAt place.now (left_of text.now.text)
         line.entry.number line.entry.bytes.now line.entry.is_ended (kind_of_what trouble.what)) }

@@ -1,7 +1,7 @@
 //! Finds the line at which the command of a text's kind finds it at fault. It takes no memory.
 ghost use Rattle.std.specs.Prelude.{◌≡◌, ◌↔◌, ◌≤◌, ℕ, IfNone, IfSome, IsTrue, MatchOption, length};
 ghost use Rattle.std.specs.Option.{option_copied};
-ghost use Rattle.tx_check.specs.Behind.{AreProgramLines, IsFaultAt, IsReadBut, MayStand};
+ghost use Rattle.tx_check.specs.AfterHeader.{AreProgramLines, IsAllowedAt, IsFaultAt, IsReadBut};
 ghost use Rattle.tx_check.specs.Kinds.{head_of};
 ghost use Rattle.tx_check.specs.Kinds as spec;
 ghost use Rattle.tx_check.specs.Labels.{AreKnown};
@@ -45,7 +45,7 @@ pub fn first_fault(kind: Kind, text: &Labels<'_>) -> Option<Fault>
         Ok(found) => found,
         Err(fault) => return Some(fault),
     };
-    if let Some(fault) = fault_behind(kind, text, header, left) {
+    if let Some(fault) = fault_after_header(kind, text, header, left) {
         return Some(fault);
     }
     match kind {
@@ -55,7 +55,7 @@ pub fn first_fault(kind: Kind, text: &Labels<'_>) -> Option<Fault>
 }
 
 /// The fault of the first line behind a text's header that is at fault in its place.
-fn fault_behind(
+fn fault_after_header(
     kind: Kind,
     text: &Labels<'_>,
     header: Header,
@@ -69,7 +69,7 @@ fn fault_behind(
         (IsAtFault kind (left_of text.now.text)) }
     ensures there { IfSome result (IsFaultIn (left_of text.now.text)) }
 {
-    let mut place = Place::behind_header(kind_of_head(kind), header.version);
+    let mut place = Place::after_header(kind_of_head(kind), header.version);
     let mut number = FIRST_LINE;
     let mut room = Room::new();
     let mut left = rest;
@@ -92,7 +92,7 @@ fn fault_behind(
 /// The fault of a line of a text at that place. Nothing where it may stand there.
 fn fault_at(text: &Labels<'_>, place: &Place, line: TextLine<'_>) -> Option<Fault>
     requires { AreKnown text.now }
-    ensures may { IfNone result (MayStand (left_of text.now.text) place.now line.entry) }
+    ensures may { IfNone result (IsAllowedAt (left_of text.now.text) place.now line.entry) }
     ensures fault { IfSome result (IsFaultAt (left_of text.now.text) place.now line.entry) }
 {
     let number = line.number;

@@ -1,8 +1,8 @@
 //! Whether what is told of a line is so there.
 ghost use Rattle.std.specs.Prelude.{◌≡◌, ◌≢◌, ◌<◌, ◌≤◌, ◌⊎◌, ◌++◌, ◌∷◌, [], ℕ, List, IfSome, IsFalse, IsTrue, MatchOption, None, length, option_map, true};
-ghost use Rattle.tx_check.specs.Speaking.{ends_word, is_odd, kind_of_what, word_of, IsAt, IsBehindWords, IsByteAt, IsCommandAt, IsDigitAt, IsFitting, IsOddSpace, IsPlacedInLine, IsStepAt, IsTrueOf, IsWordAt, OfGrammar, OfLabel, OfLength};
+ghost use Rattle.tx_check.specs.Speaking.{ends_word, is_odd, kind_of_what, word_of, IsAfterWords, IsAt, IsByteAt, IsCommandAt, IsDigitAt, IsFitting, IsOddSpace, IsPlacedInLine, IsStepAt, IsTrueOf, IsWordAt, OfGrammar, OfLabel, OfLength};
 ghost use Rattle.tx_check.specs.Speaking as spec;
-ghost use Rattle.tx_check.specs.Told.{IsColumn, IsPlaced};
+ghost use Rattle.tx_check.specs.Diagnostics.{IsColumn, IsPlaced};
 ghost use Rattle.tx_check.specs.declared.trouble.LineTrouble.TheVariants as troubles;
 ghost use Rattle.tx_check.specs.declared.trouble.What.TheVariants as whats;
 ghost use Rattle.tx_translate.specs.OwnLines.{without_return};
@@ -202,7 +202,7 @@ fn is_true_of(line: &[u8], column: usize, trouble: LineTrouble) -> bool
         LineTrouble::OtherComment => is_comment_at(line, column),
         LineTrouble::Empty | LineTrouble::NoCommands => line.is_empty(),
         LineTrouble::Space => is_odd_space(line, column),
-        LineTrouble::NoCall => is_behind_words(line, column),
+        LineTrouble::NoCall => is_after_words(line, column),
         LineTrouble::CommandTooSoon => is_command_at(line, column),
         LineTrouble::StepInProgram | LineTrouble::StepAmongCommands => is_step_at(line, column),
         LineTrouble::NoStep => false,
@@ -260,9 +260,9 @@ fn is_odd_space(line: &[u8], column: usize) -> bool
 }
 
 /// Whether no word is in that column of a line, or behind it.
-fn is_behind_words(line: &[u8], column: usize) -> bool
+fn is_after_words(line: &[u8], column: usize) -> bool
     requires { IsColumn line.now column }
-    ensures { IsTrue result → IsBehindWords line.now column }
+    ensures { IsTrue result → IsAfterWords line.now column }
 {
     let (_front, left) = line.split_at(column - 1);
     split_word(before_return(left)).is_none()

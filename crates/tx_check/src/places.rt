@@ -4,7 +4,7 @@ ghost use Rattle.tx_check.specs.Kinds.{head_of};
 ghost use Rattle.tx_check.specs.Numbered as spec;
 ghost use Rattle.tx_check.specs.Right.{IsTooMany};
 ghost use Rattle.tx_check.specs.Speaking.{kind_of_line, OfLength};
-ghost use Rattle.tx_check.specs.Stands.{begins_label, counted, stand_after, AmongLines, AmongSteps, AtHeader, IsPastAll, IsPlaceOf, IsVersionOf, Stand};
+ghost use Rattle.tx_check.specs.Contexts.{begins_label, counted, next_context, AmongLines, AmongSteps, AtHeader, Context, IsPastAll, IsPlaceOf, IsVersionOf};
 ghost use Rattle.tx_check.specs.declared.places.Part.TheVariants as parts;
 ghost use Rattle.tx_check.specs.declared.trouble.LineTrouble.TheVariants as troubles;
 ghost use Rattle.tx_lines.specs.Programs.{BeginsLabel};
@@ -75,7 +75,7 @@ impl Place {
     /// The place of the first line of a text.
     pub fn first(kind: Kind, text: MeantLines<'_>) -> Place
         ensures version { IsVersionOf (head_of kind) (left_of text.entry) result.version }
-        ensures stands { IsPlaceOf (AtHeader (head_of kind)) result }
+        ensures in_context { IsPlaceOf (AtHeader (head_of kind)) result }
     {
         let kind = kind_of_head(kind);
         Place {
@@ -87,10 +87,10 @@ impl Place {
     }
 
     /// The place of the line behind a header of that kind and version.
-    pub fn behind_header(kind: TextKind, version: Version) -> Place
+    pub fn after_header(kind: TextKind, version: Version) -> Place
         ensures version { result.version ≡ version }
         ensures link { result.part ≡ parts.Link → ⊥ }
-        ensures stands { (line : List ℕ) → IsPlaceOf (stand_after (AtHeader kind) line) result }
+        ensures in_context { (line : List ℕ) → IsPlaceOf (next_context (AtHeader kind) line) result }
     {
         let part = match kind {
             TextKind::Schedule => Part::Step,
@@ -109,11 +109,11 @@ impl Place {
         ensures version { result.version ≡ self.version }
         ensures link { result.part ≡ parts.Link → self.part ≡ parts.Link }
         ensures linked { self.part ≡ parts.Link → result.part ≡ parts.Link }
-        ensures stands { (stand : Stand) → IsPlaceOf stand self →
-            IsPlaceOf (stand_after stand line.now) result }
+        ensures in_context { (context : Context) → IsPlaceOf context self →
+            IsPlaceOf (next_context context line.now) result }
     {
         match self.part {
-            Part::Header(kind) => Place::behind_header(kind, self.version),
+            Part::Header(kind) => Place::after_header(kind, self.version),
             Part::Step => self.after_step(line),
             Part::ProgramLine => self.after_line(line),
             Part::Command | Part::Link => self.after_one(),
@@ -125,8 +125,8 @@ impl Place {
         requires { self.part ≡ parts.Step }
         ensures version { result.version ≡ self.version }
         ensures link { result.part ≡ parts.Link → ⊥ }
-        ensures stands { (steps : ℕ) → self.count ≡ counted steps →
-            IsPlaceOf (stand_after (AmongSteps steps) line.now) result }
+        ensures in_context { (steps : ℕ) → self.count ≡ counted steps →
+            IsPlaceOf (next_context (AmongSteps steps) line.now) result }
     {
         if is_debug(line) {
             return Place {
@@ -143,9 +143,9 @@ impl Place {
         requires { self.part ≡ parts.ProgramLine }
         ensures version { result.version ≡ self.version }
         ensures link { result.part ≡ parts.Link → ⊥ }
-        ensures stands { (instructions labels : ℕ) → self.count ≡ counted instructions →
+        ensures in_context { (instructions labels : ℕ) → self.count ≡ counted instructions →
             self.labels ≡ counted labels →
-            IsPlaceOf (stand_after (AmongLines instructions labels) line.now) result }
+            IsPlaceOf (next_context (AmongLines instructions labels) line.now) result }
     {
         if is_label(line) {
             return Place {
@@ -173,8 +173,8 @@ impl Place {
     /// Whether a line that was one too many stands before it: none does where all lines are right but
     /// for their labels.
     pub fn is_past_all(&self) -> bool
-        ensures past { IsTrue result → (stand : Stand) → IsPlaceOf stand self.now →
-            IsPastAll stand }
+        ensures past { IsTrue result → (context : Context) → IsPlaceOf context self.now →
+            IsPastAll context }
         ensures link { IsTrue result → self.now.part ≢ parts.Link }
     {
         match self.part {

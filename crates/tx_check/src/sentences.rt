@@ -1,8 +1,8 @@
 //! The words in which a trouble is told. Each sentence stands in one line.
 ghost use Rattle.std.specs.Prelude.{◌≡◌, ◌<◌, ◌++◌, ◌∷◌, [], true, map, OnOk, IfOk, IfSome, string_bytes};
 ghost use Rattle.tx_check.specs.Speaking as spec;
-ghost use Rattle.tx_check.specs.Speaking.{is_after, is_front, kind_of_what, said_word, shown, word_of, IsOfKind, SaysOfLine, SpeaksBehind, SpeaksOf, SpeaksOfByte};
-ghost use Rattle.tx_check.specs.Told.{IsInLine};
+ghost use Rattle.tx_check.specs.Speaking.{is_after, is_front, kind_of_what, said_word, shown, word_of, IsOfKind, SaysOfLine, SpeaksAfter, SpeaksOf, SpeaksOfByte};
+ghost use Rattle.tx_check.specs.Diagnostics.{IsInLine};
 
 use crate::forms::Form;
 use crate::habits::left_out;
@@ -103,7 +103,7 @@ fn joined(alloc: Global, front: &str, word: &[u8], tail: &[u8]) -> Result<String
     ensures in_line { IfOk result (λ sentence. IsInLine (string_bytes sentence)) }
     ensures says { IfOk result (λ sentence. SpeaksOf word.now (string_bytes sentence)) }
     ensures behind { IfOk result (λ sentence.
-        SpeaksBehind front.now word.now (string_bytes sentence)) }
+        SpeaksAfter front.now word.now (string_bytes sentence)) }
 {
     let mut text = String::new(alloc);
     put(&mut text, front)?;

@@ -1,7 +1,7 @@
 //! Tells of a line of a session what is wrong with it.
 ghost use Rattle.std.specs.Prelude.{◌≡◌, ◌≤◌, ◌++◌, IfOk, IfSome, OnOk, codes, length, string_bytes};
 ghost use Rattle.std.specs.Fmt.{decimal};
-ghost use Rattle.tx_check.specs.Sessions.{IsSessionTold};
+ghost use Rattle.tx_check.specs.Sessions.{IsSessionDiagnostic};
 
 mod asks;
 mod heads;
@@ -39,23 +39,23 @@ pub fn session_line(
     version: Version,
     line: &[u8],
 ) -> Result<String, NoMemory>
-    ensures { IfOk result (λ told. IsSessionTold line.now (string_bytes told)) }
+    ensures { IfOk result (λ report. IsSessionDiagnostic line.now (string_bytes report)) }
 {
     let mut room = Room::new();
     let trouble = session_trouble(is_third, version, line, &mut room);
     let trouble = placed(line, trouble);
     let words = sentence(alloc, &trouble.what)?;
-    let mut told = String::new(alloc);
-    put_column(&mut told, trouble.column as u64, words.as_str())?;
-    Ok(told)
+    let mut report = String::new(alloc);
+    put_column(&mut report, trouble.column as u64, words.as_str())?;
+    Ok(report)
 }
 
 /// Appends that sentence behind that column.
-fn put_column(told: &mut String, column: u64, sentence: &str) -> Result<(), AllocError>
-    ensures { OnOk result (string_bytes told.new ≡ string_bytes told.old
+fn put_column(report: &mut String, column: u64, sentence: &str) -> Result<(), AllocError>
+    ensures { OnOk result (string_bytes report.new ≡ string_bytes report.old
         ++ (codes "column " ++ (decimal column ++ (codes ": " ++ sentence.now)))) }
 {
-    write!(told, "column {column}: {sentence}")
+    write!(report, "column {column}: {sentence}")
 }
 
 /// What is wrong with a line of a session.
@@ -111,7 +111,7 @@ fn meant_line<'a>(is_third: bool, line: &'a [u8], room: &'a mut Room) -> Option<
 }
 
 /// What follows the first word of a line.
-fn behind_word(is_third: bool, line: &[u8]) -> Option<(&[u8], &[u8])>
+fn after_word(is_third: bool, line: &[u8]) -> Option<(&[u8], &[u8])>
     ensures { IfSome result (λ r. length r.1.now ≤ length line.now) }
 {
     if is_third {
@@ -128,7 +128,7 @@ fn behind_word(is_third: bool, line: &[u8]) -> Option<(&[u8], &[u8])>
 fn asked_step(is_third: bool, line: &[u8]) -> Option<&[u8]>
     ensures { IfSome result (λ step. length step.now ≤ length line.now) }
 {
-    let (word, step) = behind_word(is_third, line)?;
+    let (word, step) = after_word(is_third, line)?;
     if word != b"try".as_slice() && word != b"why".as_slice() {
         return None;
     }

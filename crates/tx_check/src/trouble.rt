@@ -2,7 +2,7 @@
 ghost use Rattle.std.specs.Prelude.{◌≡◌, ◌≢◌, true, option_map, IfNone, IfSome, IsTrue};
 ghost use Rattle.tx_check.specs.Speaking.{is_front, kind_of_line, kind_of_names, kind_of_what, no_label, word_of, OfGrammar, OfLabel};
 ghost use Rattle.tx_check.specs.Speaking as spec;
-ghost use Rattle.tx_check.specs.Told.{IsColumn, IsInLine};
+ghost use Rattle.tx_check.specs.Diagnostics.{IsColumn, IsInLine};
 ghost use Rattle.tx_check.specs.declared.trouble.What.TheVariants as whats;
 
 use crate::forms::Form;
@@ -134,7 +134,7 @@ pub enum WordTrouble<'a> {
     OpenString,
     NoEscape,
     StringSize,
-    BehindString,
+    AfterString,
     NoStore,
     NoSignals,
     Twice,
@@ -378,7 +378,7 @@ impl WordTrouble<'_> {
             WordTrouble::NoEscape =>
                 "the escapes of a string are \\n, \\t, \\0, \\\" and \\\\; hex digits are any bytes",
             WordTrouble::StringSize => "a string has 1 to 64 bytes",
-            WordTrouble::BehindString => "a space is wanted after a string",
+            WordTrouble::AfterString => "a space is wanted after a string",
             WordTrouble::NoStore => "a string is only the bytes of a store: store A \"text\"",
             WordTrouble::NoSignals => "a set is - for none, or signals joined by commas",
             WordTrouble::Twice => "a signal is in the set twice",

@@ -3,7 +3,7 @@ use Rattle.std.specs.Prelude.{ℕ, Bool, false, ◌||◌, List, [], ◌∷◌, �
 use Rattle.std.specs.Str.{bytes_eq}
 use Rattle.tx_base.specs.declared.steps.Reply.{Reply}
 use Rattle.tx_base.specs.declared.steps.Reply.TheVariants.{Done}
-use Rattle.tx_expect.specs.Comments.{told_in}
+use Rattle.tx_expect.specs.Comments.{comment_text}
 use Rattle.tx_state_text.specs.Replies.{error_name, named_reply_text, reply_text}
 
 -- the name of the error that a reply is
@@ -27,4 +27,4 @@ spells_at_once (byte ∷ text) reply = if nat_eq byte 32 then spells text reply 
 
 -- whether a reply is the expected one: by what follows one space, or by what is told
 abbrev pub agrees : List ℕ → Reply → Bool
-agrees expected reply = spells_at_once expected reply || spells (told_in expected) reply
+agrees expected reply = spells_at_once expected reply || spells (comment_text expected) reply

@@ -5,4 +5,4 @@ use Rattle.tx_check.specs.declared.readers.Reader.TheVariants.{Any}
 
 -- that is told of a text: what a check tells of it; or, where a check tells nothing, what is wrong with its expectations, of which nothing is said here
 abbrev pub SaysToo : List ℕ → List ℕ → Type 0
-SaysToo text told = IsSaidFor Any text told ⊎ IsSaidFor Any text []
+SaysToo text report = IsSaidFor Any text report ⊎ IsSaidFor Any text []

@@ -10,7 +10,7 @@ use Rattle.tx_script.specs.Grammars.{schedules, Grammar}
 
 -- what is reported of a text
 abbrev pub report_of : List ℕ → Header → List Step → List ℕ
-report_of text header steps = let p = whole_progress text header steps in p.told ++ counts_text p.tally
+report_of text header steps = let p = whole_progress text header steps in p.report ++ counts_text p.tally
 
 -- a schedule that a text means, answered by that report
 abbrev pub expectations : List ℕ → Grammar (Header × List Step)

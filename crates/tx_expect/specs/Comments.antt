@@ -10,9 +10,9 @@ use Rattle.tx_translate.specs.declared.reading.Reading.{Reading}
 use Rattle.tx_translate.specs.declared.reading.Reading.TheVariants.{Between, InWord, InString, AfterBackslash, InComment}
 
 -- whether words are those of the header or of a step: there are some, and they give no name to a process
-abbrev pub is_told : List (List ℕ) → Bool
-is_told [] = false
-is_told (word ∷ words) = not (is_some (naming_of word words))
+abbrev pub is_header_or_step : List (List ℕ) → Bool
+is_header_or_step [] = false
+is_header_or_step (word ∷ words) = not (is_some (naming_of word words))
 
 -- bytes without the ASCII white space at their start, and without that at their end
 abbrev pub without_start : List ℕ → List ℕ
@@ -56,8 +56,8 @@ abbrev pub before_mark : List ℕ → List ℕ
 before_mark bytes = before_by bytes (parts_at 35 bytes)
 
 -- a comment up to the next `#`, without the white space around it
-abbrev pub told_in : List ℕ → List ℕ
-told_in comment = trimmed (before_mark comment)
+abbrev pub comment_text : List ℕ → List ℕ
+comment_text comment = trimmed (before_mark comment)
 
 -- what a line expects: what its comment has after `=`
 abbrev pub expected_in : List ℕ → Option (List ℕ)
@@ -65,7 +65,7 @@ expected_in line = option_and_then after_equals (comment_in line)
 
 -- whether that is a text: right after one space, or by what it tells
 abbrev pub says : List ℕ → List ℕ → Bool
-says expected text = bytes_eq expected (32 ∷ text) || bytes_eq (told_in expected) text
+says expected text = bytes_eq expected (32 ∷ text) || bytes_eq (comment_text expected) text
 
 -- whether a comment tells `state`
 abbrev pub is_state : Option (List ℕ) → Bool

@@ -5,7 +5,7 @@ use Rattle.tx_base.specs.declared.steps.Reply.{Reply}
 use Rattle.tx_base.specs.declared.steps.Step.{Step}
 use Rattle.tx_check.specs.Speaking.{shown}
 use Rattle.tx_expect.specs.Agreement.{agrees}
-use Rattle.tx_expect.specs.Comments.{begins_state, expected_in, is_told, told_in}
+use Rattle.tx_expect.specs.Comments.{begins_state, comment_text, expected_in, is_header_or_step}
 use Rattle.tx_expect.specs.declared.judges.Judge.{Judge}
 use Rattle.tx_expect.specs.declared.tallies.Tally.{Tally}
 use Rattle.tx_expect.specs.declared.tallies.Verdict.{Verdict}
@@ -33,7 +33,7 @@ step_place_text number step = place_text number ++ (step_text step ++ codes ": "
 
 -- what is expected, before what is there instead
 abbrev pub expected_text : List ℕ → List ℕ
-expected_text expected = codes "expected " ++ (map shown (told_in expected) ++ codes ", got ")
+expected_text expected = codes "expected " ++ (map shown (comment_text expected) ++ codes ", got ")
 
 -- what is reported of a step whose reply is not the expected one
 abbrev pub difference_text : ℕ → Step → List ℕ → Reply → List ℕ
@@ -60,9 +60,9 @@ abbrev pub step_verdict : Option (List ℕ) → Reply → Verdict
 step_verdict None reply = Silent
 step_verdict (Some expected) reply = if agrees expected reply then Met else Unmet
 
-abbrev pub step_told : ℕ → Step → Option (List ℕ) → Reply → List ℕ
-step_told number step None reply = []
-step_told number step (Some expected) reply = if agrees expected reply then [] else difference_text number step expected reply
+abbrev pub step_report : ℕ → Step → Option (List ℕ) → Reply → List ℕ
+step_report number step None reply = []
+step_report number step (Some expected) reply = if agrees expected reply then [] else difference_text number step expected reply
 
 -- how far the lines of a text are judged: whether the header was there, the steps to come with their replies, the verdicts, and what is reported
 pub record Progress : Type 0 where
@@ -70,7 +70,7 @@ pub record Progress : Type 0 where
   pub steps : List Step
   pub replies : List Reply
   pub tally : Tally
-  pub told : List ℕ
+  pub report : List ℕ
 
 -- the same as a judge knows it
 abbrev pub progress_of : Judge → Progress
@@ -79,29 +79,29 @@ progress_of judge = record {
   steps = judge.steps.now;
   replies = judge.replies.now;
   tally = judge.tally;
-  told = string_bytes judge.report;
+  report = string_bytes judge.report;
 }
 
 -- with one verdict more, and what is reported of it
 abbrev pub judged : Progress → Verdict → List ℕ → Progress
-judged p verdict told = record p { tally = tally_with p.tally verdict; told = p.told ++ told }
+judged p verdict report = record p { tally = tally_with p.tally verdict; report = p.report ++ report }
 
 -- with an expectation more that is not met, where there is one
 abbrev pub judged_stray : Progress → Option (List ℕ) → Progress
 judged_stray p None = p
-judged_stray p (Some told) = judged p Unmet told
+judged_stray p (Some report) = judged p Unmet report
 
 -- after the line of the next step
 abbrev pub after_step : ℕ → List ℕ → List Step → List Reply → Progress → Progress
 after_step number line [] replies p = judged_stray p (stray number line)
 after_step number line (step ∷ steps) [] p = judged_stray p (stray number line)
 after_step number line (step ∷ steps) (reply ∷ replies) p =
-    judged (record p { steps = steps; replies = replies }) (step_verdict (expected_in line) reply) (step_told number step (expected_in line) reply)
+    judged (record p { steps = steps; replies = replies }) (step_verdict (expected_in line) reply) (step_report number step (expected_in line) reply)
 
 -- after the line of the header, or of the next step behind it
-abbrev pub after_told : ℕ → List ℕ → Progress → Progress
-after_told number line p = if p.headed then after_step number line p.steps p.replies p else judged_stray (record p { headed = true }) (stray number line)
+abbrev pub after_header_or_step : ℕ → List ℕ → Progress → Progress
+after_header_or_step number line p = if p.headed then after_step number line p.steps p.replies p else judged_stray (record p { headed = true }) (stray number line)
 
 -- after the line of that number
 abbrev pub after_line : ℕ → List ℕ → Progress → Progress
-after_line number line p = if is_told (words_in line) then after_told number line p else judged_stray p (stray number line)
+after_line number line p = if is_header_or_step (words_in line) then after_header_or_step number line p else judged_stray p (stray number line)

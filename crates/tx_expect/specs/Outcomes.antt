@@ -5,7 +5,7 @@ use Rattle.tx_base.specs.declared.steps.Reply.{Reply}
 use Rattle.tx_base.specs.declared.steps.Step.{Step}
 use Rattle.tx_expect.specs.Comments.{begins_state}
 use Rattle.tx_expect.specs.Lines.{after_line, judged, Progress}
-use Rattle.tx_expect.specs.States.{state_difference, state_told, state_verdict}
+use Rattle.tx_expect.specs.States.{state_difference, state_report, state_verdict}
 use Rattle.tx_expect.specs.declared.outcomes.Outcome.{Outcome}
 use Rattle.tx_expect.specs.declared.tallies.Tally.{Tally}
 use Rattle.tx_lines.specs.Schedule.{FaultsBy, IsFaultOf}
@@ -30,7 +30,7 @@ is_at_state p line = p.headed && (is_last p.steps && begins_state line)
 
 -- with the verdict on the state
 abbrev pub judged_state : Progress → Option (List ℕ) → Progress
-judged_state p difference = judged p (state_verdict difference) (state_told difference)
+judged_state p difference = judged p (state_verdict difference) (state_report difference)
 
 -- what the lines of a text from that number on come to, where the state has those lines
 abbrev pub after_lines : List (List ℕ) → ℕ → Progress → List (List ℕ) → Progress
@@ -48,7 +48,7 @@ abbrev pub none_counted : Tally
 none_counted = record { met = 0; unmet = 0; silent = 0 }
 
 abbrev pub first_progress : List Step → List Reply → Progress
-first_progress steps replies = record { headed = false; steps = steps; replies = replies; tally = none_counted; told = [] }
+first_progress steps replies = record { headed = false; steps = steps; replies = replies; tally = none_counted; report = [] }
 
 -- the lines of a state, without the word before them
 abbrev pub state_lines : List ℕ → List (List ℕ)
@@ -74,7 +74,7 @@ is_well p = is_last p.steps && is_met p.tally
 
 -- the outcome of a judged text
 pub record IsOutcome (p : Progress) (outcome : Outcome) : Type 0 where
-  pub report : string_bytes outcome.report ≡ p.told ++ counts_text p.tally
+  pub report : string_bytes outcome.report ≡ p.report ++ counts_text p.tally
   pub met : outcome.is_met ≡ is_well p
 
 -- the outcome of the schedule that a text means, or the fault of the text

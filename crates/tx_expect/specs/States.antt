@@ -44,8 +44,8 @@ state_difference at (line ∷ lines) number state = difference_at (expected_in l
 -- the verdict on a state, and what is reported of it
 abbrev pub state_verdict : Option (List ℕ) → Verdict
 state_verdict None = Met
-state_verdict (Some told) = Unmet
+state_verdict (Some report) = Unmet
 
-abbrev pub state_told : Option (List ℕ) → List ℕ
-state_told None = []
-state_told (Some told) = told
+abbrev pub state_report : Option (List ℕ) → List ℕ
+state_report None = []
+state_report (Some report) = report

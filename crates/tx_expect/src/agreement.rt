@@ -3,7 +3,7 @@ ghost use Rattle.std.specs.Prelude.{◌≡◌, IfOk, option_map, true};
 ghost use Rattle.tx_expect.specs.Agreement as spec;
 ghost use Rattle.tx_state_text.specs.Replies.{reply_text};
 
-use crate::comments::told_in;
+use crate::comments::comment_text;
 use std::alloc::AllocError;
 use tx_base::Reply;
 use tx_state_text::{error_name, put_named_reply, put_reply};
@@ -18,7 +18,7 @@ pub fn agrees(spelled: &mut String, expected: &[u8], reply: &Reply) -> Result<bo
     if spells_at_once(spelled, expected, reply)? {
         return Ok(true);
     }
-    spells(spelled, told_in(expected), reply)
+    spells(spelled, comment_text(expected), reply)
 }
 
 /// Whether what follows one space spells a reply. Most expectations do, and nothing else is looked at.

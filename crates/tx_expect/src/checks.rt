@@ -4,7 +4,7 @@ ghost use Rattle.tx_check.specs.Command.{Checks};
 ghost use Rattle.tx_expect.specs.Checks.{SaysToo};
 ghost use Rattle.tx_lines.specs.Ends.{IsFresh};
 
-use crate::comments::{begins_state, expected_in, is_told, told_in};
+use crate::comments::{begins_state, comment_text, expected_in, is_header_or_step};
 use crate::naming::Names;
 use crate::spellings::is_reply;
 use std::alloc::{AllocError, Global};
@@ -35,24 +35,24 @@ pub fn check_too<S: Source, W: Sink>(
         (W.counts sink.old) result (S.counts source.new) (W.written sink.new) (W.counts sink.new) }
 {
     let text = read_whole(alloc, source)?;
-    let told = told_too(alloc, text.as_slice())?;
-    let bytes = told.as_bytes();
+    let report = report_too(alloc, text.as_slice())?;
+    let bytes = report.as_bytes();
     write_whole(sink, bytes)?;
     Ok(bytes.is_empty())
 }
 
 /// What is told of a text, and of its expectations and names where that is nothing.
-fn told_too(alloc: Global, text: &[u8]) -> Result<String, NoMemory>
-    ensures { IfOk result (λ told. SaysToo text.now (string_bytes told)) }
+fn report_too(alloc: Global, text: &[u8]) -> Result<String, NoMemory>
+    ensures { IfOk result (λ report. SaysToo text.now (string_bytes report)) }
 {
-    let told = check_text_for(alloc, Reader::Any, text)?;
-    if !told.is_empty() {
-        return Ok(told);
+    let report = check_text_for(alloc, Reader::Any, text)?;
+    if !report.is_empty() {
+        return Ok(report);
     }
     let own = own_troubles(alloc, text)?;
     // Most texts have none, and of what kind they are is asked of each line.
     if own.is_empty() || kind_of(MeantLines::of(text)) != Kind::Schedule {
-        return Ok(told);
+        return Ok(report);
     }
     Ok(own)
 }
@@ -61,9 +61,9 @@ fn told_too(alloc: Global, text: &[u8]) -> Result<String, NoMemory>
 /// each.
 fn own_troubles(alloc: Global, text: &[u8]) -> Result<String, AllocError> {
     let outline = Outline::of(text);
-    let mut told = String::new(alloc);
+    let mut report = String::new(alloc);
     if !outline.is_named && split_at(b'#', text).is_none() {
-        return Ok(told);
+        return Ok(report);
     }
     let mut names = Names::none(alloc);
     let mut place = Place::Start;
@@ -74,7 +74,7 @@ fn own_troubles(alloc: Global, text: &[u8]) -> Result<String, AllocError> {
         };
         place = place.next(line, number > outline.last);
         if let Some(trouble) = trouble_at(place, line) {
-            put_trouble(&mut told, number, line, trouble)?;
+            put_trouble(&mut report, number, line, trouble)?;
         }
         match place {
             Place::Start => {}
@@ -83,13 +83,13 @@ fn own_troubles(alloc: Global, text: &[u8]) -> Result<String, AllocError> {
                 if outline.is_named
                     && let Some(column) = names.second_name(line)?
                 {
-                    put_second_name(&mut told, number, column)?;
+                    put_second_name(&mut report, number, column)?;
                 }
             }
         }
         left = rest;
     }
-    Ok(told)
+    Ok(report)
 }
 
 /// What is seen of a text before its lines are gone over.
@@ -113,7 +113,7 @@ impl Outline {
             let Some((line, rest)) = split_line(left) else {
                 break;
             };
-            if is_told(line) {
+            if is_header_or_step(line) {
                 outline.last = number;
             } else if naming_in(line).is_some() {
                 outline.is_named = true;
@@ -144,9 +144,9 @@ impl Place {
         match self {
             Place::State => Place::State,
             _ if is_after_last && begins_state(line) => Place::State,
-            Place::Start if is_told(line) => Place::Header,
+            Place::Start if is_header_or_step(line) => Place::Header,
             Place::Start => Place::Start,
-            _ if is_told(line) => Place::Step,
+            _ if is_header_or_step(line) => Place::Step,
             _ => Place::Between,
         }
     }
@@ -170,7 +170,7 @@ fn trouble_at(place: Place, line: &[u8]) -> Option<Trouble<'_>> {
     }
     match (place, expected_in(line)) {
         (Place::State, _) => None,
-        (Place::Step, Some(expected)) if is_reply(told_in(expected)) => None,
+        (Place::Step, Some(expected)) if is_reply(comment_text(expected)) => None,
         (Place::Step, Some(expected)) => Some(Trouble::NoReply(expected)),
         (Place::Step, None) => None,
         (_, Some(_expected)) => Some(Trouble::NoStep),
@@ -180,28 +180,28 @@ fn trouble_at(place: Place, line: &[u8]) -> Option<Trouble<'_>> {
 
 /// Appends a line that tells what is wrong with the expectation of the line of that number.
 fn put_trouble(
-    told: &mut String,
+    report: &mut String,
     number: u64,
     line: &[u8],
     trouble: Trouble<'_>,
 ) -> Result<(), AllocError> {
     let column = column_of(line, trouble);
-    write!(told, "line {number}, column {column}: ")?;
+    write!(report, "line {number}, column {column}: ")?;
     match trouble {
         Trouble::NoReply(expected) => {
-            put(told, "no such reply: ")?;
-            put_shown(told, told_in(expected))?;
-            put(told, REPLIES)
+            put(report, "no such reply: ")?;
+            put_shown(report, comment_text(expected))?;
+            put(report, REPLIES)
         }
-        Trouble::NoStep => put(told, "a reply is expected after its step, in its line\n"),
-        Trouble::TooSoon => put(told, "# state must come after the last step\n"),
+        Trouble::NoStep => put(report, "a reply is expected after its step, in its line\n"),
+        Trouble::TooSoon => put(report, "# state must come after the last step\n"),
     }
 }
 
 /// Appends a line that tells that the process at a column of the line of that number has a name.
-fn put_second_name(told: &mut String, number: u64, column: usize) -> Result<(), AllocError> {
+fn put_second_name(report: &mut String, number: u64, column: usize) -> Result<(), AllocError> {
     write!(
-        told,
+        report,
         "line {number}, column {column}: it has a name; a process gets a second one only when it is \
          forked anew\n"
     )
@@ -209,12 +209,12 @@ fn put_second_name(told: &mut String, number: u64, column: usize) -> Result<(), 
 
 /// The column of an expectation that is wrong: of what is expected, or of its comment.
 fn column_of(line: &[u8], trouble: Trouble<'_>) -> usize {
-    let behind = match trouble {
+    let left = match trouble {
         Trouble::NoReply(expected) => expected.trim_ascii_start().len(),
         Trouble::NoStep | Trouble::TooSoon => match split_at(b'#', line) {
             Some((_front, comment)) => comment.len().saturating_add(1),
             None => 0,
         },
     };
-    line.len().saturating_sub(behind).saturating_add(1)
+    line.len().saturating_sub(left).saturating_add(1)
 }

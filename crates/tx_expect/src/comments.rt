@@ -1,6 +1,6 @@
 //! The comment of a line, and what it says that the line's step is to be answered.
 ghost use Rattle.std.specs.Prelude.{◌≡◌, ◌≤◌, length, option_map};
-ghost use Rattle.tx_expect.specs.Comments.{after_equals, before_mark, begins_state, comment_from, comment_in, expected_in, is_told, says, told_in};
+ghost use Rattle.tx_expect.specs.Comments.{after_equals, before_mark, begins_state, comment_from, comment_in, comment_text, expected_in, is_header_or_step, says};
 ghost use Rattle.tx_translate.specs.Words as words;
 ghost use Rattle.tx_translate.specs.Words.{words_in};
 ghost use Rattle.tx_translate.specs.declared.reading.Reading.TheVariants.{InString, InWord};
@@ -10,8 +10,8 @@ use tx_translate::{naming_in, split_word};
 
 /// Whether a line is the header or a step: it has a word, and gives no name to a process.
 #[inline(always)] // most lines are seen to be one by their first byte
-pub fn is_told(line: &[u8]) -> bool
-    ensures { result ≡ is_told (words_in line.now) }
+pub fn is_header_or_step(line: &[u8]) -> bool
+    ensures { result ≡ is_header_or_step (words_in line.now) }
 {
     match line {
         [first, ..] if !is_blank(*first) && *first != b'#' && *first != b'n' => true,
@@ -32,7 +32,7 @@ pub fn says(expected: &[u8], text: &[u8]) -> bool
 {
     match expected {
         [b' ', rest @ ..] if rest == text => true,
-        _ => told_in(expected) == text,
+        _ => comment_text(expected) == text,
     }
 }
 
@@ -47,8 +47,8 @@ pub fn begins_state(line: &[u8]) -> bool
 }
 
 /// A comment up to the next `#`, without the white space around it.
-pub fn told_in(comment: &[u8]) -> &[u8]
-    ensures { result.now ≡ told_in comment.now }
+pub fn comment_text(comment: &[u8]) -> &[u8]
+    ensures { result.now ≡ comment_text comment.now }
 {
     before_mark(comment).trim_ascii()
 }
@@ -73,7 +73,7 @@ fn comment_in(line: &[u8]) -> Option<&[u8]>
             return Some(rest);
         }
         if *byte == b'"' {
-            return comment_behind_strings(line);
+            return comment_after_strings(line);
         }
         left = rest;
     }
@@ -81,7 +81,7 @@ fn comment_in(line: &[u8]) -> Option<&[u8]>
 }
 
 /// The same where the line may have strings.
-fn comment_behind_strings(line: &[u8]) -> Option<&[u8]>
+fn comment_after_strings(line: &[u8]) -> Option<&[u8]>
     ensures { option_map (λ comment. comment.now) result ≡ comment_in line.now }
 {
     let mut is_in_word = false;
@@ -92,7 +92,7 @@ fn comment_behind_strings(line: &[u8]) -> Option<&[u8]>
         }
         if *byte == b'"' && !is_in_word {
             is_in_word = true;
-            left = behind_string(rest);
+            left = after_string(rest);
         } else {
             is_in_word = !is_blank(*byte);
             left = rest;
@@ -102,7 +102,7 @@ fn comment_behind_strings(line: &[u8]) -> Option<&[u8]>
 }
 
 /// What follows a string, of which that is left of a line.
-fn behind_string(line: &[u8]) -> &[u8]
+fn after_string(line: &[u8]) -> &[u8]
     ensures same { comment_from InString line.now ≡ comment_from InWord result.now }
     ensures shorter { length result.now ≤ length line.now }
 {

@@ -1,13 +1,13 @@
 //! Judges the lines of a text: whether the reply to each step is the expected one.
 ghost use Rattle.std.specs.Prelude.{◌≡◌, ◌+◌, ◌-◌, ◌<◌, ◌≤◌, ◌^◌, ◌++◌, ℕ, List, IfOk, IfSome, OnOk, length, option_map};
-ghost use Rattle.tx_expect.specs.Lines.{after_line, judged, judged_stray, progress_of, step_told, step_verdict, stray, total};
+ghost use Rattle.tx_expect.specs.Lines.{after_line, judged, judged_stray, progress_of, step_report, step_verdict, stray, total};
 ghost use Rattle.tx_expect.specs.Outcomes.{after_lines, after_stop, first_progress, is_at_state, judged_state, state_lines, IsOutcome};
 ghost use Rattle.tx_expect.specs.States.{state_difference};
 ghost use Rattle.tx_expect.specs.Comments.{expected_in};
 ghost use Rattle.tx_translate.specs.OwnLines.{own_lines};
 
 use crate::agreement::agrees;
-use crate::comments::{begins_state, expected_in, is_told};
+use crate::comments::{begins_state, expected_in, is_header_or_step};
 use crate::outcomes::Outcome;
 use crate::sentences::{put_counts, put_difference, put_stray, put_too_soon};
 use crate::states::put_state_difference;
@@ -87,7 +87,7 @@ impl<'a> Judge<'a> {
             (progress_of self.new ≡ after_line number line.now (progress_of self.old)) }
         ensures few { OnOk result (total self.new.tally ≤ total self.old.tally + 1) }
     {
-        if is_told(line) {
+        if is_header_or_step(line) {
             if self.is_headed
                 && let Some((step, steps)) = self.steps.split_first()
                 && let Some((reply, replies)) = self.replies.split_first()
@@ -112,7 +112,7 @@ impl<'a> Judge<'a> {
         requires { total self.old.tally < 2 ^ 64 - 1 }
         ensures judged { OnOk result (progress_of self.new ≡ judged (progress_of self.old)
             (step_verdict (expected_in line.now) reply.now)
-            (step_told number step.now (expected_in line.now) reply.now)) }
+            (step_report number step.now (expected_in line.now) reply.now)) }
         ensures few { OnOk result (total self.new.tally ≤ total self.old.tally + 1) }
     {
         let verdict = match expected_in(line) {

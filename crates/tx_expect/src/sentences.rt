@@ -5,7 +5,7 @@ ghost use Rattle.tx_expect.specs.Lines.{stray_text, too_soon_text};
 ghost use Rattle.tx_expect.specs.Outcomes.{counts_text};
 ghost use Rattle.tx_expect.specs.States.{more_text, no_line_text, no_more_text, other_line_text, state_place_text};
 
-use crate::comments::told_in;
+use crate::comments::comment_text;
 use crate::tallies::Tally;
 use std::alloc::AllocError;
 use std::fmt::Write;
@@ -139,6 +139,6 @@ fn put_expected(report: &mut String, expected: &[u8]) -> Result<(), AllocError>
         (string_bytes report.new ≡ string_bytes report.old ++ expected_text expected.now) }
 {
     put(report, "expected ")?;
-    put_shown(report, told_in(expected))?;
+    put_shown(report, comment_text(expected))?;
     put(report, ", got ")
 }

@@ -14,9 +14,9 @@ const REFUSALS: u8 = 14;
 const BUSY: u8 = 8;
 
 /// Whether some reply may be spelled so. Of numbers it is only asked whether they fit.
-pub fn is_reply(told: &[u8]) -> bool {
-    match split_word(told) {
-        None => told == b"ended".as_slice() || told == b"committed".as_slice(),
+pub fn is_reply(reply: &[u8]) -> bool {
+    match split_word(reply) {
+        None => reply == b"ended".as_slice() || reply == b"committed".as_slice(),
         Some((word, rest)) => is_reply_with(word, rest),
     }
 }

@@ -1,6 +1,6 @@
 //! Compares the lines of a state with those that are expected.
 ghost use Rattle.std.specs.Prelude.{◌≡◌, ◌+◌, ◌-◌, ◌<◌, ◌^◌, ◌++◌, IfOk, length, string_bytes};
-ghost use Rattle.tx_expect.specs.States.{after_last, state_difference, state_told, state_verdict};
+ghost use Rattle.tx_expect.specs.States.{after_last, state_difference, state_report, state_verdict};
 ghost use Rattle.tx_expect.specs.Outcomes.{state_lines};
 ghost use Rattle.tx_translate.specs.OwnLines.{own_lines};
 
@@ -23,17 +23,17 @@ pub fn put_state_difference(
     requires { at + length lines.now < 2 ^ 64 - 1 }
     ensures verdict { IfOk result (λ verdict. verdict ≡ state_verdict
         (state_difference at (own_lines lines.now) (at + 1) (state_lines state.now))) }
-    ensures told { IfOk result (λ verdict. string_bytes report.new ≡ string_bytes report.old
-        ++ state_told (state_difference at (own_lines lines.now) (at + 1) (state_lines state.now))) }
+    ensures reports { IfOk result (λ verdict. string_bytes report.new ≡ string_bytes report.old
+        ++ state_report (state_difference at (own_lines lines.now) (at + 1) (state_lines state.now))) }
 {
-    let mut to_come = behind_first(state);
+    let mut to_come = after_first(state);
     let mut number = at + 1;
     let mut left = lines;
     while let Some((line, rest)) = split_line(left) {
         if let Some(expected) = expected_in(line) {
             match split_line(to_come) {
-                Some((next, behind)) if says(expected, next) => to_come = behind,
-                Some((next, _behind)) => {
+                Some((next, later)) if says(expected, next) => to_come = later,
+                Some((next, _later)) => {
                     put_other_line(report, number, expected, next)?;
                     return Ok(Verdict::Unmet);
                 }
@@ -53,11 +53,11 @@ pub fn put_state_difference(
 fn put_rest(report: &mut String, at: u64, to_come: &[u8]) -> Result<Verdict, AllocError>
     ensures verdict { IfOk result (λ verdict. verdict
         ≡ state_verdict (after_last at (own_lines to_come.now))) }
-    ensures told { IfOk result (λ verdict. string_bytes report.new ≡ string_bytes report.old
-        ++ state_told (after_last at (own_lines to_come.now))) }
+    ensures reports { IfOk result (λ verdict. string_bytes report.new ≡ string_bytes report.old
+        ++ state_report (after_last at (own_lines to_come.now))) }
 {
     match split_line(to_come) {
-        Some((next, _behind)) => {
+        Some((next, _later)) => {
             put_more(report, at, next)?;
             Ok(Verdict::Unmet)
         }
@@ -66,11 +66,11 @@ fn put_rest(report: &mut String, at: u64, to_come: &[u8]) -> Result<Verdict, All
 }
 
 /// What follows the first line of a text.
-fn behind_first(text: &[u8]) -> &[u8]
+fn after_first(text: &[u8]) -> &[u8]
     ensures { own_lines result.now ≡ state_lines text.now }
 {
     match split_line(text) {
-        Some((_first, behind)) => behind,
+        Some((_first, later)) => later,
         None => text,
     }
 }

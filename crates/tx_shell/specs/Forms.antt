@@ -3,7 +3,7 @@ use Rattle.std.specs.Prelude.{◌≡◌, ℕ, Bool, false, true, List, [], ◌�
 use Rattle.json.specs.Token.{Token}
 use Rattle.tx_base.specs.declared.steps.Accepted.{Accepted}
 use Rattle.tx_base.specs.declared.steps.Reply.{Reply}
-use Rattle.tx_check.specs.Sessions.{IsSessionTold}
+use Rattle.tx_check.specs.Sessions.{IsSessionDiagnostic}
 use Rattle.tx_json.specs.Answers.{empty_answer, error_answer, position_answer, step_answer, lines_with, trial_answer}
 use Rattle.tx_json.specs.Line.{IsLineOf}
 use Rattle.tx_json.specs.Members.{count_member, null_member}
@@ -31,7 +31,7 @@ use Rattle.tx_state_text.specs.Replies.{named_reply_text}
 -- what is wrong with the line, between a mark and the line's end
 pub record TellsOf (line text : List ℕ) : Type 0 where
   pub told : List ℕ
-  pub wrong : IsSessionTold line told
+  pub wrong : IsSessionDiagnostic line told
   pub says : text ≡ codes "? " ++ (told ++ 10 ∷ [])
 
 -- the answer to a line without a word
@@ -57,7 +57,7 @@ SaysAhead Json text = IsLineOf (error_answer (codes "steps are ahead; cut lets g
 -- what is wrong with a line
 abbrev pub TellsIn : Form → List ℕ → List ℕ → Type 0
 TellsIn Text line text = TellsOf line text
-TellsIn Json line text = (told : List ℕ) × IsSessionTold line told × IsLineOf (error_answer told) text
+TellsIn Json line text = (told : List ℕ) × IsSessionDiagnostic line told × IsLineOf (error_answer told) text
 
 -- a step that was found to change a piece is directly before the position
 abbrev pub IsPlaced : ℕ → Answer → Type 0

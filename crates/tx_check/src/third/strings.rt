@@ -60,7 +60,7 @@ fn wrong_in(string: &[u8]) -> WordTrouble<'static> {
 /// What is wrong with a string of so many bytes, and with what follows it.
 fn wrong_at_end(count: usize, behind: &[u8]) -> WordTrouble<'static> {
     if !behind.is_empty() {
-        return WordTrouble::BehindString;
+        return WordTrouble::AfterString;
     }
     if count == 0 || count > BYTES {
         return WordTrouble::StringSize;

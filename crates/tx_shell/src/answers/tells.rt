@@ -1,6 +1,6 @@
 //! Reports what is wrong with a line that is neither a step nor a command.
 ghost use Rattle.std.specs.Prelude.{IfOk, string_bytes};
-ghost use Rattle.tx_check.specs.Sessions.{IsSessionTold};
+ghost use Rattle.tx_check.specs.Sessions.{IsSessionDiagnostic};
 ghost use Rattle.tx_shell.specs.Forms.{TellsIn, TellsOf};
 
 use crate::lines::versions::TextVersion;
@@ -32,7 +32,7 @@ pub fn tell_in(
 
 /// What is wrong with a line, after a mark.
 fn mark(alloc: Global, line: &[u8], told: &str) -> Result<String, NoMemory>
-    requires { IsSessionTold line.now told.now }
+    requires { IsSessionDiagnostic line.now told.now }
     ensures { IfOk result (λ text. TellsOf line.now (string_bytes text)) }
 {
     Ok(format!(in alloc; "? {told}\n")?)

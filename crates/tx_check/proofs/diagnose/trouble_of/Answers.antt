@@ -7,22 +7,22 @@ use Rattle.tx_translate.specs.MeantLines.{left_of}
 use Rattle.tx_check.proofs.diagnose.trouble_of.Goals as goal
 
 pub returns-then-line-gt-LINE_BYTES-clause-wrong : goal.returns-then-line-gt-LINE_BYTES-clause-wrong
-returns-then-line-gt-LINE_BYTES-clause-wrong c = λ stand is. inl (TooLong (omega (arith, c.if-line-gt-LINE_BYTES.true)))
+returns-then-line-gt-LINE_BYTES-clause-wrong c = λ context is. inl (TooLong (omega (arith, c.if-line-gt-LINE_BYTES.true)))
 
 pub returns-in-Some-clause-wrong : goal.returns-in-Some-clause-wrong
-returns-in-Some-clause-wrong c = λ stand is. inl (TooMany (too_many stand c.args.place.now c.args.line.bytes.now is c.in-Some.ensures.over))
+returns-in-Some-clause-wrong c = λ context is. inl (TooMany (too_many context c.args.place.now c.args.line.bytes.now is c.in-Some.ensures.over))
 
 pub returns-then-not-is_right-clause-wrong : goal.returns-then-not-is_right-clause-wrong
-returns-then-not-is_right-clause-wrong c = λ stand is.
-    inl (Other (none_there c.args.place.now.version stand c.args.place.now c.args.line.bytes.now is (c.is_right.ensures.wrong c.if-not-is_right.true)))
+returns-then-not-is_right-clause-wrong c = λ context is.
+    inl (Other (none_there c.args.place.now.version context c.args.place.now c.args.line.bytes.now is (c.is_right.ensures.wrong c.if-not-is_right.true)))
 
 pub returns-in-Some-trouble_between-clause-wrong : goal.returns-in-Some-trouble_between-clause-wrong
-returns-in-Some-trouble_between-clause-wrong c = λ stand is.
+returns-in-Some-trouble_between-clause-wrong c = λ context is.
     let found = c.in-Some-trouble_between.ensures in
-    between c.args.place.now.version (left_of c.args.text.now.text) c.args.line.number stand c.args.place.now c.args.line.bytes.now c.args.line.is_ended is found.program found.wrong
+    between c.args.place.now.version (left_of c.args.text.now.text) c.args.line.number context c.args.place.now c.args.line.bytes.now c.args.line.is_ended is found.program found.wrong
 
 pub returns-in-None-clause-wrong : goal.returns-in-None-clause-wrong
-returns-in-None-clause-wrong c = on_some c.no_end.result (λ unended stand is. inl (NoEnd unended)) c.no_end.ensures.unended
+returns-in-None-clause-wrong c = on_some c.no_end.result (λ unended context is. inl (NoEnd unended)) c.no_end.ensures.unended
 
 pub returns-in-Some-clause-long : goal.returns-in-Some-clause-long
 returns-in-Some-clause-long c = λ same.

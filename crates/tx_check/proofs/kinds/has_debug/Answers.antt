@@ -2,7 +2,7 @@ use Rattle.std.proofs.Common.{◌≡◌, ◌∙◌, Bool, ◌||◌, false, List,
 use Rattle.std.proofs.lemmas.Bool.{both_ways}
 use Rattle.std.specs.Str.{bytes_eq}
 use Rattle.tx_check.specs.Kinds.{begins_with_debug, debug_ahead, has_debug}
-use Rattle.tx_check.proofs.SoFar.{debug_behind, not_debug}
+use Rattle.tx_check.proofs.SoFar.{debug_after, not_debug}
 use Rattle.tx_lines.specs.Schedule.{first_line}
 use Rattle.tx_lines.specs.Walks.{debug_line}
 use Rattle.tx_translate.specs.MeantLines.{left_of}
@@ -20,4 +20,4 @@ loop-line-preserved c =
     let next = c.in-Some.ensures.line in
     let other : begins_with_debug left ≡ false =
     not_debug (first_line left) (λ same. both_ways c.is_debug.result c.if-is_debug.false (c.is_debug.ensures.1 (next.bytes ∙ same))) in
-    c.loop-line.invariant ∙ ap (λ (b : Bool). b || has_debug left) other ∙ debug_behind left ∙ ap debug_ahead (sym next.behind)
+    c.loop-line.invariant ∙ ap (λ (b : Bool). b || has_debug left) other ∙ debug_after left ∙ ap debug_ahead (sym next.behind)

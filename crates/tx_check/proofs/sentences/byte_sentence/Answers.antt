@@ -1,7 +1,7 @@
 use Rattle.std.proofs.Common.{arith, codes, refl, string_bytes}
 use Rattle.std.specs.Fmt.{decimal}
 use Rattle.tx_check.proofs.InLine.{decimal_in_line, in_line_more}
-use Rattle.tx_check.specs.Told.{IsInLine}
+use Rattle.tx_check.specs.Diagnostics.{IsInLine}
 use Rattle.tx_check.proofs.sentences.byte_sentence.Goals as goal
 
 pub returns-clause-in_line : goal.returns-clause-in_line

@@ -2,7 +2,7 @@ use Rattle.std.proofs.Common.{map, refl, string_bytes}
 use Rattle.tx_check.proofs.InLine.{in_line_more}
 use Rattle.tx_check.proofs.SaidWords.{shown_in_line, word_in_line}
 use Rattle.tx_check.specs.Speaking.{said_word, shown}
-use Rattle.tx_check.specs.Told.{IsInLine}
+use Rattle.tx_check.specs.Diagnostics.{IsInLine}
 use Rattle.tx_check.proofs.sentences.joined.Goals as goal
 
 pub returns-clause-in_line : goal.returns-clause-in_line

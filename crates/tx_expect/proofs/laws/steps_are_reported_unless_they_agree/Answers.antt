@@ -21,7 +21,7 @@ reported number step (Some expected) reply =
         met = (λ met. same, λ is. rw same refl);
       }
       | inr other ↦ record {
-        silent = (λ none. absurd (let told = rw other at none in cc), λ either. elim either [ inl none ↦ cc | inr is ↦ cc ]);
+        silent = (λ none. absurd (let report = rw other at none in cc), λ either. elim either [ inl none ↦ cc | inr is ↦ cc ]);
         met = (λ met. absurd (let unmet = rw other at met in cc), λ is. cc);
       }
     ]
