@@ -14,7 +14,7 @@ use Rattle.tx_translate.specs.OwnLines.{without_return}
 line_append : (a b c d e s : List ℕ) → (a ++ (b ++ (c ++ (d ++ (e ++ s))))) ++ 10 ∷ [] ≡ a ++ (b ++ (c ++ (d ++ (e ++ (s ++ 10 ∷ [])))))
 line_append a b c d e s = simp append_assoc refl
 
--- a line of what is told
+-- a diagnostic
 reports_line : (number column : ℕ) (bytes old sentence new : List ℕ) → IsColumn bytes column → IsInLine sentence → SpeaksAt bytes column sentence → (512 < length (without_return bytes) → sentence ≡ line_sentence TooLong)
     → new ≡ old ++ (codes "line " ++ (decimal number ++ (codes ", column " ++ (decimal column ++ (codes ": " ++ (sentence ++ 10 ∷ [])))))) → Reports number bytes old new
 reports_line number column bytes old sentence new inside in_line speaks long spelled = record {
@@ -59,7 +59,7 @@ last_more before (first ∷ xs) x = last_more first.line xs x
 diagnostic_in : (text bytes : List ℕ) (line : ℕ) (diagnostic : Diagnostic) → diagnostic.line ≡ line → bytes ≡ line_at line text → IsDiagnosticOf bytes diagnostic → IsDiagnosticIn text diagnostic
 diagnostic_in text bytes line diagnostic at same good = subst (λ (n : ℕ). IsDiagnosticOf (line_at n text) diagnostic) (sym at) (subst (λ (b : List ℕ). IsDiagnosticOf b diagnostic) same good)
 
--- lines that are told of
+-- reported lines
 among_more : (line : ℕ) (xs : List Diagnostic) (x : Diagnostic) → IsAmong line xs → IsAmong line (xs ++ x ∷ [])
 among_more line [] x is = absurd is
 among_more line (first ∷ xs) x (inl is) = inl is
@@ -87,7 +87,7 @@ fewer IsWanted IsLess text line report less reports = record {
   spelled = reports.spelled;
 }
 
--- the last line that is told may be wanted too
+-- the last reported line may be wanted too
 pub last_known : (IsWanted IsMore : ℕ → Type 0) (text : List ℕ) (line last : ℕ) (report : List ℕ) → ((meant : ℕ) → IsMore meant → IsWanted meant ⊎ (own_line text meant ≡ last))
     → ReportsUpTo IsWanted text line last report → ReportsUpTo IsMore text line last report
 last_known IsWanted IsMore text line last report more up_to =
@@ -110,7 +110,7 @@ last_known IsWanted IsMore text line last report more up_to =
       up_to = up_to.up_to;
     }
 
--- the first line that is told of
+-- the first reported line
 pub first_reported : (IsWanted : ℕ → Type 0) (text bytes : List ℕ) (line : ℕ) (old new : List ℕ) → ((meant : ℕ) → IsWanted meant → ⊥) → bytes ≡ line_at line text → old ≡ []
     → Reports line bytes old new → ReportsUpTo IsWanted text line line new
 first_reported IsWanted text bytes line old new no_other same none reports = record {

@@ -1,4 +1,4 @@
--- A text is the same lines, each with its end, in one way alone.
+-- A text is the same lines, each with its end, in only one way.
 use Rattle.std.proofs.Common.{◌≡◌, ℕ, suc, Bool, true, false, not, nat_eq, ◌⊎◌, List, [], ◌∷◌, ◌++◌, Some, map, refl, ap, sym, ◌∙◌, inl, inr, arith, append_assoc, All}
 use Rattle.std.specs.List.{list_all}
 use Rattle.tx_check.proofs.InLine.{both_true}
@@ -57,7 +57,7 @@ same_ended left right more others first second e = (
   some_same more others (sym (after_ended left more first) ∙ ap after_line e ∙ after_ended right others second),
 )
 
--- of two beginnings of a text, one goes on with what is behind the other
+-- of two beginnings of a text, one goes on with what follows the other
 pub record GoesOnTo (before : List (List ℕ)) (rest : List ℕ) (all : List (List ℕ)) (end : List ℕ) : Type 0 where
   pub more : List (List ℕ)
   pub whole : all ≡ before ++ more

@@ -1,4 +1,4 @@
--- The kinds of sentences, and of what is told.
+-- The kinds of sentences, and of diagnostics.
 use Rattle.std.proofs.Common.{◌≡◌, ◌≢◌, ◌∙◌, ◌≤◌, ℕ, List, true, Result, Ok, Err, IfOk, IfSome, inl, inr, ap, arith, length, refl, subst, sym}
 use Rattle.tx_check.specs.Speaking.{is_front, kind_of_line, kind_of_names, kind_of_what, line_sentence, no_label, word_of, FaultKind, IsFitting, IsOfKind, OfGrammar, OfLabel, OfLength, SpeaksAfter}
 use Rattle.tx_check.specs.declared.trouble.LineTrouble.{LineTrouble}
@@ -58,6 +58,6 @@ abbrev trouble_of : What → LineTrouble
 trouble_of (whats.Line trouble) = trouble
 trouble_of what = NoneOfTheGrammar
 
--- the same is told only of the same trouble
+-- the same is reported only of the same trouble
 pub same_trouble : (what : What) (one other : LineTrouble) → what ≡ whats.Line one → what ≡ whats.Line other → one ≡ other
 same_trouble what one other is also = sym (ap trouble_of is) ∙ ap trouble_of also

@@ -1,4 +1,4 @@
--- The line at which a text is at fault is so at fault where the text stands there.
+-- The line at which a text is at fault is so at fault in its context.
 use Rattle.std.proofs.Common.{◌≡◌, ◌≢◌, ◌∙◌, ℕ, suc, ◌+◌, ◌-◌, ◌<◌, ◌≤◌, Bool, true, false, List, [], ◌∷◌, ◌++◌, Option, Some, None, IfSome, is_some, length, ap, sym, subst, refl, inl, inr, arith}
 use Rattle.tx_check.proofs.EndedLines.{after_ended, all_at}
 use Rattle.tx_check.proofs.LabelsFound.{label_at, later_is, HasLines}
@@ -52,7 +52,7 @@ first_in text _ is = absurd is
 pub header_there : (kind : Kind) (text : List ℕ) (fault : Fault) → kind ≡ kind_of text → FaultsAtHeader (head_of kind) text fault → IsFaultIn text fault
 header_there kind text fault same is = first_in text fault (subst (λ (k : Kind). FaultsAtHeader (head_of k) text fault) same is)
 
--- behind it: the text stands at the first line there
+-- after it: the context of the first line there
 pub after_is : (kind : TextKind) (text : List ℕ) (header : Header) (rest : List ℕ) → SpellsHeader kind text header rest → rest ≡ after_lines 1 text
 after_is kind text header rest spells =
     sym (ap behind spells.spelled ∙ ap behind_by (after_ended (header_text kind header) rest (short_header kind header spells.fits).in_line))

@@ -1,4 +1,4 @@
--- A header is read from the first line of a text alone.
+-- A header is read from only the first line of a text.
 use Rattle.std.proofs.Common.{◌≡◌, ◌∙◌, List, ℕ, [], ◌∷◌, ◌++◌, Some, true, is_some, length, inl, inr, refl, ap, arith, subst, sym}
 use Rattle.std.proofs.lemmas.Bool.Decides.{eqb_tells}
 use Rattle.tx_check.specs.Numbered.{behind}

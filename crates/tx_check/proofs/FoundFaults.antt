@@ -14,7 +14,7 @@ in_text Is (TooLong line) is some = is
 in_text Is NoMemory is some = absurd (some refl)
 in_text Is _ is some = absurd is
 
--- what a reader answers in place of the text is found in it, where it is no want of memory
+-- what a reader answers in place of the text is found in it, where memory was not refused
 pub found : {T : Type 0} (Reads : Result T Fault → Type 0) (kind : Kind) (text : List ℕ) (result : Result T Fault) (answer : Option Fault) → ((whole : T) → Reads (Ok whole) → IsRead kind text)
     → ((fault : Fault) → Reads (Err fault) → FaultsBy (IsAtFault kind text) fault) → Reads result → answer ≡ result_err result → answer ≢ Some NoMemory → Finds kind text answer
 found Reads kind text (Ok whole) answer read at_fault reads is some = subst (Finds kind text) (sym is) (read whole reads)

@@ -1,4 +1,4 @@
--- Lines one after another, with one more, and what stands behind some.
+-- Lines one after another, with one more, and what follows some.
 use Rattle.std.proofs.Common.{◌≡◌, ◌≢◌, ◌∙◌, ℕ, zero, suc, ◌<◌, ◌==◌, eqb-true, true, false, List, [], ◌∷◌, ◌++◌, Option, Some, None, is_some, length, refl, ap, sym, inl, inr, arith, append_assoc, All}
 use Rattle.std.proofs.lemmas.Bool.{both_ways}
 use Rattle.std.proofs.lemmas.Bool.Decides.{eqb_tells}
@@ -62,7 +62,7 @@ past_first (suc count) text = ap behind (past_first count text)
 pub all_after : {A : Type 0} (P : A → Type 0) (x : A) (xs : List A) → All P (x ∷ xs) → All P xs
 all_after P x xs all = λ k d below. all (suc k) d (omega (arith, below))
 
--- behind the first of some lines
+-- after the first of some lines
 pub next_after : (version : Version) (one : Line) (lines : List Line) (left : List ℕ) → IsLineOf version one → behind (lines_of line_text (one ∷ lines) ++ left) ≡ lines_of line_text lines ++ left
 next_after version one lines left good =
     ap behind (append_assoc (line_text one) (10 ∷ lines_of line_text lines) left)
@@ -99,7 +99,7 @@ pub none_left : (count : ℕ) → after_lines count [] ≡ []
 none_left zero = refl
 none_left (suc count) = ap behind (none_left count)
 
--- no line behind all of them
+-- no line after all of them
 pub none_beyond : (version : Version) (lines : List Line) (count : ℕ) → All (IsLineOf version) lines → (count < length lines → ⊥) → after_lines count (lines_of line_text lines ++ []) ≡ []
 none_beyond version [] count fit past = none_left count
 none_beyond version (one ∷ lines) zero fit past = absurd (past (omega arith))

@@ -1,4 +1,4 @@
--- Where a text stands at a line, and one line later.
+-- The context of a line, and of the next one.
 use Rattle.std.proofs.Common.{◌≡◌, ◌≢◌, ◌∙◌, ℕ, zero, suc, ◌+◌, ◌-◌, ◌≤◌, Bool, true, false, if◌then◌else◌, List, [], ap, sym, subst, refl, inl, inr, is_some, arith}
 use Rattle.tx_check.specs.Kinds.{head_of, kind_of}
 use Rattle.tx_check.specs.Numbered.{after_lines, line_at}
@@ -30,7 +30,7 @@ in_context_later text count number later line place next at on same in_context v
       in_context = subst (λ (n : ℕ). IsPlaceOf (context_after kind text n) next) there gone;
     }
 
--- behind its header a program stands among its lines
+-- after its header a program is among its lines
 record IsAmongLines (context : Context) : Type 0 where
   instructions : ℕ
   labels : ℕ
@@ -47,7 +47,7 @@ among_lines text (suc count) =
     let line = first_line (after_lines (suc count) text) in
     subst (λ (context : Context). IsAmongLines (next_context context line)) (sym before.same) (lines_by before.instructions before.labels (begins_label line))
 
--- a label that is nowhere is one of a program, behind the header
+-- a label that is nowhere is one of a program, after the header
 label_of_program : (kind : Kind) (text : List ℕ) (line : ℕ) → IsAtFault kind text (NoLabel line) → (kind ≡ kinds.Program) × (2 ≤ line)
 label_of_program kinds.Schedule text line (inl header) = absurd header
 label_of_program kinds.Schedule text line (inr found) = absurd found.3.fault_after.1
@@ -78,7 +78,7 @@ in_context_at_fault text kind (NotALine number) place next is fault in_context v
 in_context_at_fault text kind (TooLong number) place next is fault in_context version label other = subst (IsPlaceAt text number) (sym (other (λ line e. absurd (cc)))) in_context
 in_context_at_fault text kind _ place next is fault in_context version label other = subst (IsPlaceAt text 0) (sym (other (λ line e. absurd (cc)))) in_context
 
--- a line that is told is at fault
+-- a reported line is at fault
 pub wrong_line : (text : List ℕ) (place : Place) (line : TextLine) → IsPlaceAt text line.number place → IsLineAt text line
     → ((context : Context) → IsPlaceOf context place → IsWrong place.version text line.number context line.bytes.now line.is_ended) → IsWrongLine text line.number
 wrong_line text place line in_context at wrong =

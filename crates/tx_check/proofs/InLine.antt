@@ -1,4 +1,4 @@
--- Bytes that stand in one line.
+-- Bytes that are in one line.
 use Rattle.std.proofs.Common.{◌≡◌, ℕ, ◌<◌, ◌^◌, Bool, true, ◌&&◌, false, List, [], ◌∷◌, ◌++◌, ◌∙◌, refl, arith, subst}
 use Rattle.std.specs.Char.{digit_value}
 use Rattle.std.specs.Fmt.{decimal}

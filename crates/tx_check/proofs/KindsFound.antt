@@ -1,4 +1,4 @@
--- What is found of the line of a fault, at its place, is of the fault's kind, and it is not that nothing is found.
+-- What is found of the line of a fault, at its place, is of the fault's kind, and something is found.
 use Rattle.std.proofs.Common.{◌≡◌, ◌≢◌, ◌∙◌, ◌⊎◌, ℕ, ◌-◌, ◌<◌, Bool, true, false, List, is_some, length, ap, sym, subst, refl, inl, inr, arith}
 use Rattle.tx_check.proofs.LeftOut.{many_there, not_wrong, one_version}
 use Rattle.tx_check.proofs.Wronged.{too_many}
@@ -79,7 +79,7 @@ label_kind text number place line OfGrammar is link fault found = elim found.2 [
   ]
 ]
 
--- it is not that nothing is found
+-- something is found
 never_long : (text : List ℕ) (number : ℕ) (place : Place) (line : TextLine) → IsThere text number place line → place.part ≢ parts.Link
     → (512 < length (line_at number text)) ⊎ IsTooManyAfter text (number - 1)
     → IsQuietAt text place line → ⊥

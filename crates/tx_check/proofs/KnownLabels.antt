@@ -11,7 +11,7 @@ use Rattle.tx_lines.specs.Programs.{label_front}
 use Rattle.tx_lines.specs.Schedule.{first_line}
 use Rattle.tx_translate.specs.MeantLines.{line_of}
 
--- one line more is looked at
+-- one more line is searched
 more_by : (test : Bool) (number last : ℕ) (first line : List ℕ) (labels : List (ℕ × List ℕ)) →
     (if test then (number, first) ∷ with_label last line labels else with_label last line labels) ≡ with_label last line (if test then (number, first) ∷ labels else labels)
 more_by false number last first line labels = refl
@@ -63,7 +63,7 @@ none_more text name count none other k below =
           subst (λ (n : ℕ). first_line (after_lines n text) ≢ label_front ++ name) here other
     ]
 
--- a line is no label, and the others are sought among those behind it
+-- a line is no label, and the others are sought among those after it
 one_less : (text : List ℕ) (all : ℕ) (name : List ℕ) (labels : List (ℕ × List ℕ)) (count more : ℕ) → count + suc more ≡ all → labels ≡ labels_in more (count + 1 + 1) (after_lines (suc count) text) →
     ((k : ℕ) → k < count → first_line (after_lines k text) ≢ label_front ++ name) → first_line (after_lines count text) ≢ label_front ++ name → SoughtTo text all name labels
 one_less text all name labels count more whole left none other =

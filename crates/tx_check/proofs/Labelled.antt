@@ -1,4 +1,4 @@
--- The labels and the instructions of the lines of a program: how many there are, and which, is told by their text.
+-- The labels and the instructions of the lines of a program: their text says how many there are, and which.
 use Rattle.std.proofs.Common.{◌≡◌, ◌∙◌, ℕ, suc, ◌+◌, Bool, true, false, cond, List, [], ◌∷◌, ◌++◌, Option, Some, None, length, map, refl, ap, sym, subst, arith}
 use Rattle.std.proofs.lemmas.Bool.{both_ways}
 use Rattle.std.proofs.lemmas.List.{length-map}
@@ -32,7 +32,7 @@ instructions_both [] others = omega arith
 instructions_both (line.Label name ∷ ones) others = instructions_both ones others
 instructions_both (line.Instruction instruction ∷ ones) others = omega (arith, instructions_both ones others)
 
--- the labels are told by the text
+-- the text says the labels
 pub same_labels : (number : ℕ) (ones others : List Line) → map line_text ones ≡ map line_text others → labels_from number ones ≡ labels_from number others
 same_labels number [] [] e = refl
 same_labels number [] (other ∷ others) e = absurd (cc)
@@ -55,7 +55,7 @@ same_counts ones others e =
     let size : length ones ≡ length others = omega (arith, ap length e, length-map ones line_text, length-map others line_text) in
     (labels, omega (arith, labels, size, counts 0 ones, counts 0 others))
 
--- of distinct labels none stands twice
+-- of distinct labels none is there twice
 in_front : (labels : List (Name × ℕ)) (name twin : Name) (number : ℕ) (more : List (Name × ℕ)) → AllByRecursion (λ other. same_name name other ≡ false) (keys_of (labels ++ (twin, number) ∷ more)) → same_name name twin ≡ false
 in_front [] name twin number more all = all.0
 in_front (label ∷ labels) name twin number more all = in_front labels name twin number more all.1

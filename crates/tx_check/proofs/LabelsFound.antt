@@ -32,7 +32,7 @@ pub record IsLabelled (lines : List Line) (name : List ℕ) : Type 0 where
   pub parts : lines ≡ before ++ line.Label twin ∷ after
   pub same : twin.bytes.items ≡ name
 
--- a text of these lines behind a header, and what is left
+-- a text of these lines after a header, and what is left
 pub record HasLines (version : Version) (text : List ℕ) (lines : List Line) (left : List ℕ) : Type 0 where
   pub header : Header
   pub spells : SpellsHeader texts.Program text header (lines_of line_text lines ++ left)
@@ -84,7 +84,7 @@ label_by lines before (line.Label twin) after name parts same =
     record { before = before; twin = twin; after = after; parts = parts; same = append_cancel_left label_front twin.bytes.items name same }
 label_by lines before (line.Instruction instruction) after name parts same = absurd (no_label instruction name same)
 
--- a line of the text that is a label is among the lines that are read, or behind them
+-- a line of the text that is a label is among the lines that are read, or after them
 pub labelled : (version : Version) (text : List ℕ) (lines : List Line) (left name : List ℕ) (number : ℕ) → HasLines version text lines left → line_at number text ≡ label_front ++ name → (number < length lines + 2) ⊎ (left ≡ []) → IsLabelled lines name
 labelled version text lines left name zero has same within =
     absurd (no_header has.header.version has.header.count name (sym (first_is version text lines left has) ∙ same))

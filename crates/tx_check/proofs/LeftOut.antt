@@ -1,4 +1,4 @@
--- No line at fault is left out: where nothing is told of a line, it is at fault neither in its place nor by its label.
+-- No line at fault is left out: where nothing is reported of a line, it is at fault neither in its place nor by its label.
 use Rattle.std.proofs.Common.{◌≡◌, ◌≢◌, ◌∙◌, ◌⊎◌, ℕ, zero, suc, ◌+◌, ◌-◌, ◌<◌, ◌≤◌, Bool, true, false, List, [], ◌++◌, append-nil, if◌then◌else◌, length, drop, refl, ap, sym, subst, inl, inr, arith}
 use Rattle.std.proofs.lemmas.Bool.{cases_lt}
 use Rattle.std.specs.Str.{bytes_eq}
@@ -42,7 +42,7 @@ one_version kind text one other (inl first) (inr second) = absurd (second.0 firs
 one_version kind text one other (inr first) (inl second) = absurd (first.0 second.0 second.1 second.2)
 one_version kind text one other (inr first) (inr second) = first.1 ∙ sym second.1
 
--- a line that is one too many, or none of its place's, is so for what is to stand there
+-- a line that is one too many, or none of its place's, is so for what must be there
 more : (most count number : ℕ) → most ≤ 4096 → count ≡ counted number → most ≤ number → most ≤ count
 more most count number few is enough = omega (arith, few, is, enough)
 
@@ -82,7 +82,7 @@ not_wrong text (AmongCommands commands) place line is other may (Second twice) =
 not_wrong text (AmongLines instructions labels) place line (inl is) other may (Second twice) = may.once is.0 twice
 not_wrong text (AmongLines instructions labels) place line (inr is) other may (Second twice) = other is
 
--- so nothing is told of none that is wanted
+-- so no wanted line goes unreported
 not_left_out : (text : List ℕ) (place : Place) (line : TextLine) → IsPlaceAt text line.number place → IsLineAt text line → IsQuietAt text place line
     → ((place.part ≡ parts.Link) × IsUnlinked text line.number) ⊎ ((place.part ≢ parts.Link) × IsWrongThere text line.number) → ⊥
 not_left_out text place line in_context at quiet (inl is) =
@@ -103,7 +103,7 @@ pub reported_after : (part : Part) (passed : ℕ) (text : List ℕ) (place : Pla
 reported_after part passed text place line same in_context at quiet wrong =
     let here = subst (λ (p : Part). IsWrongAfter p passed text line.number) same wrong in not_left_out text place line in_context at quiet here.2
 
--- before a line that is one too many few lines stand
+-- before a line that is one too many there are few lines
 abbrev IsWithin : Context → ℕ → Type 0
 IsWithin (AtHeader kind) count = count ≡ 0
 IsWithin (AmongSteps steps) count = (count ≡ steps + 1) × (steps ≤ 4096)
@@ -167,7 +167,7 @@ not_past (AmongCommands commands) count few past = omega (arith, few.1, past)
 not_past (AmongLines instructions labels) count few (inl past) = omega (arith, few.1, past)
 not_past (AmongLines instructions labels) count few (inr past) = omega (arith, few.2, past)
 
--- behind a line that was one too many none is wanted
+-- after a line that was one too many none is wanted
 pub past_all : (text : List ℕ) (before number : ℕ) → IsPastAll (context_after (kind_of text) text before) → IsWrongThere text number → before < number → ⊥
 past_all text before number past wrong later =
     not_past (context_after (kind_of text) text before) before
@@ -179,7 +179,7 @@ none_later text before number none there later =
     let whole : (number - 1 - before) + before ≡ number - 1 = omega (arith, later) in
     there (ap (λ (n : ℕ). after_lines n text) (sym whole) ∙ sym (lines_after (number - 1 - before) before text) ∙ ap (after_lines (number - 1 - before)) none ∙ none_left (number - 1 - before))
 
--- a text whose labels alone are at fault has few lines
+-- a text where only labels are at fault has few lines
 few_lines : (text : List ℕ) (header : Header) (rest : List ℕ) (line number : ℕ) → SpellsHeader texts.Program text header rest → FaultsAtLabel header.version rest line
     → after_lines (number - 1) text ≢ [] → number ≤ 1281
 few_lines text header rest line number spells fault there =
@@ -206,7 +206,7 @@ few_unlinked kinds.Walk text line number (inr found) there = elim found.3 [ inl 
 few_unlinked kinds.Program text line number (inl header) there = absurd header
 few_unlinked kinds.Program text line number (inr found) there = few_lines text found.0 found.1 line number found.2 found.3 there
 
--- what is at fault behind a fault is so behind its line
+-- what is at fault after a fault is so after its line
 pub wrong_after : (kind : Kind) (text : List ℕ) (fault : Fault) (part : Part) (passed number : ℕ) → passed ≡ line_of fault → IsAtFault kind text fault
     → ((line : ℕ) → fault ≡ faults.NoLabel line → part ≡ parts.Link)
     → (((line : ℕ) → fault ≢ faults.NoLabel line) → part ≢ parts.Link) → IsWrongAfterFault fault text number → IsWrongAfter part passed text number

@@ -1,4 +1,4 @@
--- The parts of a line, and the lines behind the last one.
+-- The parts of a line, and the lines after the last one.
 use Rattle.std.proofs.Common.{◌≡◌, ◌≢◌, ◌∙◌, ℕ, ◌+◌, ◌-◌, ◌<◌, Bool, true, List, [], ◌∷◌, ◌++◌, IsTrue, length, take, drop, take-append-drop, length-drop, ap, sym, inl, inr, arith}
 use Rattle.std.proofs.lemmas.Slice.Eq.{bytes_eq-Decides}
 use Rattle.std.proofs.lemmas.Bool.{cases_lt}
@@ -11,7 +11,7 @@ use Rattle.tx_check.specs.Contexts.{begins_label}
 use Rattle.tx_lines.specs.Programs.{label_front}
 use Rattle.tx_lines.specs.Schedule.{first_line}
 
--- a line that begins as a label's is that of the name behind
+-- a line that begins as a label's is that of the name that follows
 pub label_parts : (line : List ℕ) → begins_label line ≡ true → line ≡ label_front ++ drop 6 line
 label_parts line begins = sym (take-append-drop 6 line) ∙ ap (λ (t : List ℕ). t ++ drop 6 line) ((bytes_eq-Decides (take 6 line) label_front).0 begins)
 

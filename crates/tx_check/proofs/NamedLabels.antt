@@ -1,4 +1,4 @@
--- The label that a line of a program names, and whether it is one: both are told by its text.
+-- The label that a line of a program names, and whether it is one: its text says both.
 use Rattle.std.proofs.Common.{◌≡◌, ◌∙◌, ℕ, inl, inr, Bool, true, false, not, ◌&&◌, nat_eq, if◌then◌else◌, List, [], ◌∷◌, ◌++◌, Option, Some, None, option_map, codes, refl, ap, append_assoc, sym, subst}
 use Rattle.std.proofs.lemmas.Bool.{both_ways}
 use Rattle.std.proofs.lemmas.Bool.Decides.{eqb_tells}
@@ -119,7 +119,7 @@ front_is [] = refl
 front_is (byte ∷ bytes) =
     elim (eqb_tells byte 32) [ inl h ↦ rw h.0 refl | inr h ↦ rw h.0 (front_on byte bytes (up_to_space bytes) (first_word bytes) (front_is bytes)) ]
 
--- a word behind the first one
+-- a word after the first one
 later_word : (word rest one : List ℕ) → IsWordOf one rest → IsWordOf one (word ++ 32 ∷ rest)
 later_word word rest one is = record {
   front = word ++ 32 ∷ is.front;
@@ -148,7 +148,7 @@ word_of_label word (Label label ∷ spellings) (argument ∷ arguments) name are
     front_is rest ∙ marked_first label.bytes.items (spelled_words spellings arguments) (short_name label.bytes.items are.0.0).plain in
     later_word word rest (64 ∷ name.bytes.items) (record { front = []; rest = rest; parts = refl; same = ap (λ (n : Name). 64 ∷ n.bytes.items) (sym same) ∙ sym first })
 
--- a line that names a label which is nowhere has that word
+-- a line that names a label that is nowhere has that word
 nowhere_in : (version : Version) (text : List ℕ) (one : Line) → IsLineOf version one → IsNamedNowhere text one → NamesNowhere text (line_text one)
 nowhere_in version text (line.Label name) is nowhere = absurd nowhere
 nowhere_in version text (line.Instruction instruction) is nowhere = by (label_in instruction.spellings.items) refl nowhere
@@ -198,7 +198,7 @@ nowhere labels one other (Some name) (Some twin) same none =
 pub same_instruction : (one other : Instruction) → line.Instruction one ≡ line.Instruction other → one ≡ other
 same_instruction one other e = cc
 
--- whether the label of a line is nowhere is told by its text
+-- the text of a line says whether its label is nowhere
 pub same_user : (version : Version) (labels : List (Name × ℕ)) (one other : Line) → IsLineOf version one → IsLineOf version other → line_text one ≡ line_text other → IsUser labels one → IsUser labels other
 same_user version labels (line.Label name) other is are e user = absurd (let bad = user.same in cc)
 same_user version labels (line.Instruction one) (line.Label name) is are e user = absurd (no_label one name.bytes.items e)

@@ -18,7 +18,7 @@ far_append : (word : List ℕ) (least : ℕ) (names others : List (List ℕ)) �
 far_append word least [] others far further = further
 far_append word least (name ∷ names) others far further = (far.0, far_append word least names others far.1 further)
 
--- all names that were looked at are further than one that is nearer
+-- all names that were looked at are farther than one that is nearer
 all_far : (word : List ℕ) (names : List (List ℕ)) (most : ℕ) (nearest : Option (List ℕ × ℕ)) → FindsNear word names most nearest → AreFar word (bound most nearest) names
 all_far word names most None far = far
 all_far word names most (Some found) is =

@@ -17,7 +17,7 @@ use Rattle.tx_lines.specs.declared.read.header.Version.{Version}
 pub lines_more : (count : ℕ) (text : List ℕ) → behind (after_lines count text) ≡ after_lines (count + 1) text
 lines_more count text = rw add-one refl
 
--- the line behind so many
+-- the line after so many
 pub line_after : (count number : ℕ) (text : List ℕ) → number ≡ count + 1 → first_line (after_lines count text) ≡ line_at number text
 line_after count number text at =
     let before : count ≡ number - 1 = omega (arith, at) in

@@ -23,7 +23,7 @@ use Rattle.tx_lines.specs.declared.read.header.TextKind.TheVariants as texts
 use Rattle.tx_lines.specs.declared.read.header.Version.{Version}
 use Rattle.tx_lines.specs.declared.read.header.Version.TheVariants.{One, Two}
 
--- the line before commands, behind a line
+-- the line before commands, after a line
 ahead_line : (line rest : List ℕ) → IsInLine line → debug_ahead (line ++ 10 ∷ rest) ≡ (bytes_eq line debug_line || debug_ahead rest)
 ahead_line line rest in_line =
     ap (λ (first : List ℕ). bytes_eq first debug_line || has_debug (line ++ 10 ∷ rest)) (first_ended line rest in_line)
@@ -39,7 +39,7 @@ ahead_steps version (step ∷ steps) rest fit =
     ∙ ap (λ (here : Bool). here || debug_ahead (steps_text steps ++ rest)) (not_debug (step_text step) (no_debug step))
     ∙ ahead_steps version steps rest (all_after (FitsStepOf version) step steps fit)
 
--- the first line tells programs from schedules
+-- the first line separates programs from schedules
 head_of_schedule : (version : Version) (count : ℕ) → is_program_head (header_front texts.Schedule version ++ decimal count) ≡ false
 head_of_schedule One count = refl
 head_of_schedule Two count = refl

@@ -1,4 +1,4 @@
--- The own lines of a text, and what is told of them.
+-- The own lines of a text, and what is reported of them.
 use Rattle.std.proofs.Common.{◌≡◌, ◌∙◌, ◌⊎◌, ◌<◌, ◌≤◌, ℕ, inl, inr, zero, suc, ◌+◌, ◌-◌, List, [], ◌∷◌, Option, Some, None, Result, Ok, Err, IfOk, length, ap, subst, sym, refl, arith, zero-add, Bool, true, false, if◌then◌else◌, slice_index_or}
 use Rattle.std.proofs.lemmas.Bool.{cases_lt, ne_eqb}
 use Rattle.tx_check.proofs.ReadOrFaulty.{none_has_two}
@@ -46,7 +46,7 @@ wanted_on : (line number : ℕ) (P : Type 0) → (number ≤ line) × P → ((nu
 wanted_on line number P wanted =
     elim (cases_lt number line) [ inl before ↦ inl (omega (arith, before), wanted.1) | inr here ↦ inr (omega (arith, here, wanted.0)) ]
 
--- what is told of a later line
+-- the report on a later line
 pub goes_on : (part : Part) (meant : MeantLines) (line own : ℕ) (from next : TextFrom) (number : ℕ) (bytes old new : List ℕ) → from.number < next.number
     → next.left.now ≡ after_lines (next.number - from.number) from.left.now → number ≡ next.number
     → bytes ≡ first_line next.left.now → next.number ≡ own → IsWrongLine (left_of meant) line → Reports number bytes old new → GoesOn part meant line own from next old new
@@ -69,7 +69,7 @@ goes_on part meant line own from next number bytes old new after left at same he
           spelled is_wrong report after up_to;
     }
 
--- where the line is told already
+-- where the line is reported already
 pub is_reported : (part : Part) (meant : MeantLines) (line own : ℕ) (from : TextFrom) (report : List ℕ) → own ≤ from.number → GoesOn part meant line own from from report report
 is_reported part meant line own from report already = λ text is_meant is_own before is. record {
   is = is;
@@ -83,7 +83,7 @@ is_reported part meant line own from report already = λ text is_meant is_own be
       up_to;
 }
 
--- where nothing is to be told of it
+-- where nothing must be reported of it
 pub is_quiet : (part : Part) (meant : MeantLines) (line own : ℕ) (from : TextFrom) (report : List ℕ) → ((passed : ℕ) → IsWrongAfter part passed (left_of meant) line → ⊥)
     → GoesOn part meant line own from from report report
 is_quiet part meant line own from report quiet = λ text is_meant is_own before is. record {
@@ -170,7 +170,7 @@ pub report_fewer : {A E : Type 0} (bytes : A → List ℕ) (result : Result A E)
 report_fewer bytes (Ok report) IsWanted IsLess text number less reports = fewer IsWanted IsLess text number (bytes report) less reports
 report_fewer bytes (Err error) IsWanted IsLess text number less reports = tt
 
--- what is told of a text where one that it means is at fault
+-- the report on a text where the one that it means is at fault
 pub fault_reported : {A E : Type 0} (bytes : A → List ℕ) (result : Result A E) (IsWanted : ℕ → Type 0) (kind : Kind) (text : List ℕ) (fault : Fault) (number : ℕ)
     → IsAtFault kind (meant_of text) fault → 1 ≤ line_of fault → number ≡ own_line text (line_of fault)
     → IfOk result (λ report. ReportsFrom IsWanted text number (bytes report)) → IfOk result (λ report. IsReportBy (IsRead kind (meant_of text)) (IsOwnFault (IsAtFault kind) text) IsWanted text (bytes report))
@@ -181,6 +181,6 @@ fault_reported bytes (Ok report) IsWanted kind text fault number at_fault some o
 })
 fault_reported bytes (Err error) IsWanted kind text fault number at_fault some own reports = tt
 
--- behind the one fault of a text
+-- after the one fault of a text
 pub wrong_too : (text : List ℕ) (fault : Fault) → IsAtFault (kind_of text) text fault → (number : ℕ) → IsWrongToo text number → IsWrongAfterFault fault text number
 wrong_too text fault is number wrong = subst (λ (f : Fault). IsWrongAfterFault f text number) (none_has_two (kind_of text) text wrong.fault fault wrong.is_fault is) wrong.too

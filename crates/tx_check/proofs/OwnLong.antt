@@ -47,7 +47,7 @@ no_longer [] = omega arith
 no_longer (byte ∷ []) = elim (eqb_tells byte 13) [ inl h ↦ rw h.0 (omega arith) | inr h ↦ rw h.0 (omega arith) ]
 no_longer (byte ∷ next ∷ bytes) = let later = no_longer (next ∷ bytes) in omega (arith, later)
 
--- the first own line of a text, and those behind it
+-- the first own line of a text, and those after it
 record IsFirstOwn (left line : List ℕ) (lines : List (List ℕ)) : Type 0 where
   first : line ≡ without_return (first_line left)
   others : own_lines (behind left) ≡ lines
@@ -96,7 +96,7 @@ later_own number k after left meant numbers is = record {
   means = is.means;
 }
 
--- behind the last one nothing is, and means nothing
+-- after the last one nothing is, and means nothing
 meant_by_none : (number k after : ℕ) (left : List ℕ) → own_lines left ≡ [] → number ≤ after → IsMeantBy number [] k after left (first_line (after_lines k []))
 meant_by_none number k after left own few =
     let on = after - number in

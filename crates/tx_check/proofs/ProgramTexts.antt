@@ -31,7 +31,7 @@ pub record IsWholeProgram (version : Version) (lines : List (List ℕ)) : Type 0
   pub made : List Instruction
   pub linked_all : map (linked (labels_of begins.ones)) (instructions_of begins.ones) ≡ map Some made
 
--- what is at fault after some lines of a program: the next one, or where there is none the first that names a label which is nowhere
+-- what is at fault after some lines of a program: the next one, or where there is none the first that names a label that is nowhere
 abbrev pub FaultsHere : Version → List Line → List ℕ → Fault → Type 0
 FaultsHere version ones rest (NoLabel number) = (rest ≡ []) × IsFirstUser (labels_of ones) ones number
 FaultsHere version ones rest fault = FaultsAtProgramLine version ones rest fault

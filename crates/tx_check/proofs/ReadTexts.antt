@@ -76,7 +76,7 @@ program_read text header rest all made spells is = (
   ),
 )
 
--- a text of steps alone has no labels
+-- a text of only steps has no labels
 pub but_read : (kind : Kind) (text : List ℕ) (version : Version) (rest : List ℕ) → IsReadBut kind text version rest → (kind ≡ kinds.Schedule) ⊎ (kind ≡ kinds.Walk) → IsRead kind text
 but_read kinds.Program text version rest but (inl is) = absurd (cc)
 but_read kinds.Program text version rest but (inr is) = absurd (cc)

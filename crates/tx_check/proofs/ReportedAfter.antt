@@ -1,4 +1,4 @@
--- What is told behind a line of a text, and that nothing more is to be told where that ends.
+-- The report on the lines after one of a text, and that it is whole where it ends.
 use Rattle.std.proofs.Common.{◌≡◌, ℕ, ◌+◌, ◌-◌, ◌^◌, ◌<◌, ◌≤◌, List, [], subst, inl, inr, arith}
 use Rattle.std.proofs.lemmas.Bool.{cases_lt}
 use Rattle.tx_check.proofs.Appended.{fewer, last_known}
@@ -15,7 +15,7 @@ use Rattle.tx_translate.specs.Meant.{meant_of, own_line}
 use Rattle.tx_translate.specs.MeantLines.{left_of}
 use Rattle.tx_translate.specs.declared.meant_lines.MeantLines.{MeantLines}
 
--- both places are such that labels alone are looked at, or neither is
+-- both places are such that only labels are checked, or neither is
 pub record AreAlike (one other : Part) : Type 0 where
   pub there : one ≡ parts.Link → other ≡ parts.Link
   pub back : other ≡ parts.Link → one ≡ parts.Link
@@ -33,7 +33,7 @@ reported_alike one other passed count text first last report are up_to =
     last_known (λ n. (n ≤ count) × IsWrongAfter one passed (meant_of text) n) (λ n. (n ≤ count) × IsWrongAfter other passed (meant_of text) n) text first last report
     (λ n wanted. inl (wanted.0, wrong_alike other one passed (meant_of text) n (turned one other are) wanted.1)) up_to
 
--- how far a text is told of, behind so many lines
+-- how far a text is reported, after so many lines
 pub record IsReportUpTo (part : Part) (passed : ℕ) (text : List ℕ) (own : TextFrom) (old : List ℕ) (before : ℕ) (reached : TextFrom) (report : List ℕ) : Type 0 where
   pub is : IsFrom text reached
   pub low : reached.number ≤ own_line text before
@@ -56,7 +56,7 @@ reported_to part here passed text own old before number reached next report new 
           (reported_alike part here passed before text first reached.number report are (so.on first up_to))));
     }
 
--- where no line behind is to be told of
+-- where no later line must be reported
 reported_all : (part : Part) (passed before : ℕ) (text : List ℕ) (first last : ℕ) (report : List ℕ)
     → ((number : ℕ) → IsWrongAfter part passed (meant_of text) number → before < number → ⊥) → ReportsAfter part passed before text first last report
     → ReportsFrom (IsWrongAfter part passed (meant_of text)) text first report
@@ -72,7 +72,7 @@ none_left part passed before text first last report none up_to = reported_all pa
   | inr is ↦ none_later (meant_of text) before n none is.1.there later
 ]) up_to
 
--- behind a line that was one too many
+-- after a line that was one too many
 pub none_past : (part here : Part) (passed before : ℕ) (text : List ℕ) (first last : ℕ) (report : List ℕ) → AreAlike part here → (here ≡ parts.Link → ⊥)
     → IsPastAll (context_after (kind_of (meant_of text)) (meant_of text) (before + 1 - 1))
     → ReportsAfter part passed before text first last report → ReportsFrom (IsWrongAfter part passed (meant_of text)) text first report
@@ -84,7 +84,7 @@ none_past part here passed before text first last report are other past up_to =
       | inr is ↦ past_all (meant_of text) before n there is.1 later
     ]) up_to
 
--- and behind as many lines as there may be
+-- and after as many lines as there may be
 pub none_more : (part : Part) (passed before : ℕ) (text : List ℕ) (first last : ℕ) (report : List ℕ) → 2 ^ 64 ≤ before + 1 → ReportsAfter part passed before text first last report
     → ReportsFrom (IsWrongAfter part passed (meant_of text)) text first report
 none_more part passed before text first last report all up_to =

@@ -1,4 +1,4 @@
--- What is told of the line at fault is of the fault's kind, and stands first.
+-- The diagnostic of the line at fault is of the fault's kind, and is first.
 use Rattle.std.proofs.Common.{◌≡◌, ◌∙◌, ℕ, ◌<◌, List, [], ◌∷◌, ◌++◌, append_assoc, append-nil, length, ap, sym, subst, refl, arith}
 use Rattle.tx_check.specs.Numbered.{line_at}
 use Rattle.tx_check.specs.Reads.{line_of}
@@ -26,7 +26,7 @@ grows_on old report new one other = record {
   grown = other.grown ∙ ap (λ (t : List ℕ). t ++ other.more) one.grown ∙ append_assoc old one.more other.more;
 }
 
--- what is told first
+-- what is reported first
 pub begins : (kind : FaultKind) (number : ℕ) (bytes old report new : List ℕ) → old ≡ [] → ReportsOfKind kind number bytes old report → Grows report new → BeginsOfKind kind new
 begins kind number bytes old report new none reports grows =
     let line = diagnostic_text reports.reports.diagnostic in

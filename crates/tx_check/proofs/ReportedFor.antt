@@ -1,4 +1,4 @@
--- What is told of a text for a command.
+-- The report on a text for a command.
 use Rattle.std.proofs.Common.{◌≡◌, ◌≢◌, ◌∙◌, ℕ, List, Option, Some, None, Result, Ok, Err, IfOk, ap, refl}
 use Rattle.tx_check.proofs.Appended.{fewer}
 use Rattle.tx_check.proofs.ReadOrFaulty.{none_has_two, none_is_both}
@@ -12,7 +12,7 @@ use Rattle.tx_check.specs.declared.kinds.Kind.{Kind}
 use Rattle.tx_lines.specs.declared.faults.Fault.{Fault}
 use Rattle.tx_translate.specs.Meant.{meant_of}
 
--- what is told of a text for its own kind
+-- the report on a text for its own kind
 by_fewer : {IsRight : Type 0} {IsFault : Fault → Type 0} (IsWanted IsLess : ℕ → Type 0) (text report : List ℕ) → ((meant : ℕ) → IsLess meant → IsWanted meant)
     → IsReportBy IsRight IsFault IsWanted text report → IsReportBy IsRight IsFault IsLess text report
 by_fewer IsWanted IsLess text report less is = record {

@@ -1,4 +1,4 @@
--- What is told of a text that is right, and of one that is at fault.
+-- The report on a text that is right, and on one that is at fault.
 use Rattle.std.proofs.Common.{◌≡◌, ◌∙◌, ℕ, List, [], ◌∷◌, length, ap, sym, subst, arith, length-append}
 use Rattle.tx_check.proofs.ReadOrFaulty.{none_has_two, none_is_both}
 use Rattle.tx_check.specs.Reads.{line_of, IsAtFault, IsRead}

@@ -1,4 +1,4 @@
--- The spelling of each header, step, command and line of a program stands in one line, and has at most 512 bytes.
+-- The spelling of each header, step, command and line of a program is in one line, and has at most 512 bytes.
 use Rattle.std.proofs.Common.{◌≡◌, ℕ, ◌+◌, ◌<◌, ◌≤◌, ◌^◌, Bool, true, false, not, ◌&&◌, nat_eq, nat_le, List, [], ◌∷◌, ◌++◌, codes, length, map, refl, ◌∙◌, arith, length-append, leb-true}
 use Rattle.std.proofs.lemmas.List.Folds.{list_all-append}
 use Rattle.std.specs.Fmt.{decimal}
@@ -33,7 +33,7 @@ use Rattle.tx_lines.specs.declared.read.header.TextKind.TheVariants as kinds
 use Rattle.tx_lines.specs.declared.read.header.Version.{Version}
 use Rattle.tx_lines.specs.declared.read.header.Version.TheVariants.{One, Two}
 
--- a spelling stands in one line, which is not too long
+-- a spelling is in one line, which is not too long
 pub record IsShort (text : List ℕ) : Type 0 where
   pub in_line : IsInLine text
   pub few : length text ≤ 512

@@ -169,7 +169,7 @@ plain_argument (Argument.Word word) fits holds = record { plain = holds; few = o
 plain_argument (Argument.Bytes bytes) fits holds = short_hex bytes fits.2
 plain_argument (Argument.Signals set) fits holds = short_list (members (bits_of set)) (few_members (bits_of set)) (members_rise (bits_of set))
 
--- a label's mark stands only in front of its name
+-- a label's mark is only in front of its name
 pub plain_slot : (slot : ℕ) → slot < 8 → IsPlain 2 (36 ∷ decimal slot)
 plain_slot slot small =
     let digits = short_decimal 1 slot (omega arith) (omega arith) (omega arith) in

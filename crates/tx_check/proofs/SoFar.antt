@@ -1,4 +1,4 @@
--- How far the lines behind a header are read: what they spell so far, one line more, and the fault of the next.
+-- How far the lines after a header are read: what they spell so far, one more line, and the fault of the next.
 use Rattle.std.proofs.Common.{◌≡◌, ◌≢◌, ◌∙◌, ◌⊎◌, ℕ, ◌+◌, ◌<◌, ◌≤◌, Bool, true, false, ◌||◌, List, [], ◌∷◌, ◌++◌, Some, None, is_some, length, refl, ap, sym, subst, inl, inr, arith}
 use Rattle.std.proofs.lemmas.Bool.{both_ways, cases_lt}
 use Rattle.std.proofs.lemmas.Bool.Decides.{eqb_tells}
@@ -101,7 +101,7 @@ debug_later (byte ∷ bytes) rest e =
       | inr h ↦ let on : after_line bytes ≡ Some rest = rw h.0 at e in rw h.0 (debug_later bytes rest on)
     ]
 
--- the line before commands is behind the first one
+-- the line before commands is after the first one
 pub debug_after : (text : List ℕ) → has_debug text ≡ debug_ahead (behind text)
 debug_after [] = refl
 debug_after (byte ∷ bytes) =
@@ -118,7 +118,7 @@ pub room : (most count number : ℕ) → most ≤ 4096 → number ≤ most → c
 room most count number small few is none =
     elim (cases_lt number most) [ inl below ↦ below | inr over ↦ absurd (none (omega (arith, small, few, is, over))) ]
 
--- what is told of a place by its part
+-- what the part of a place says of it
 part_many : (place : Place) (part : Part) (line : List ℕ) → place.part ≡ part → IsTooMany place.part place.count place.labels line → IsTooMany part place.count place.labels line
 part_many place part line same many = subst (λ (p : Part). IsTooMany p place.count place.labels line) same many
 
@@ -245,7 +245,7 @@ counts_by version rest number place left so = elim so.in_context [
   | inr link ↦ let bad : parts.ProgramLine ≡ parts.Link = sym so.part ∙ link in absurd (cc)
 ]
 
--- the lines so far behind the header of the text
+-- the lines so far after the header of the text
 pub has_lines : (version : Version) (text rest : List ℕ) (header : Header) (number : ℕ) (place : Place) (left : List ℕ) → SpellsHeader texts.Program text header rest → (so : LinesSoFar version rest number place left) → HasLines version text so.lines left
 has_lines version text rest header number place left spells so = record {
   header = header;

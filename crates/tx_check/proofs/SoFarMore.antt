@@ -1,4 +1,4 @@
--- One line more behind a header, the first of them, and the last.
+-- One more line after a header, the first of them, and the last.
 use Rattle.std.proofs.Common.{◌≡◌, ◌≢◌, ◌∙◌, ℕ, ◌+◌, ◌≤◌, Bool, true, false, if◌then◌else◌, List, [], ◌∷◌, ◌++◌, is_some, drop, length, length-append, refl, ap, sym, subst, inl, inr, arith, append-nil}
 use Rattle.std.proofs.lemmas.Slice.Eq.{bytes_eq-Decides}
 use Rattle.std.specs.List.{IsDistinct}
@@ -233,7 +233,7 @@ so_far_fault kinds.Walk text rest header number place left next fault spells so 
 so_far_fault kinds.Program text rest header number place left next fault spells so is at =
     fault_after_header kinds.Program text header rest fault spells (program_fault header.version text rest header number place left next fault spells so is at)
 
--- behind the header no line is read yet
+-- after the header no line is read yet
 no_names : IsDistinct same_name (keys_of (labels_of []))
 unfolding IsDistinct
 no_names = tt

@@ -44,7 +44,7 @@ steps_alone [] (y ∷ ys) us e = absurd (cc)
 steps_alone (x ∷ xs) [] us e = no_debug x (heads_same (step_text x) debug_line (map step_text xs) us e).0
 steps_alone (x ∷ xs) (y ∷ ys) us e = steps_alone xs ys us (heads_same (step_text x) (step_text y) (map step_text xs) (map step_text ys ++ debug_line ∷ us) e).1
 
--- the line before the commands stands in one place
+-- the line before the commands is in one place
 same_debug : (xs ys : List Step) (us vs : List (List ℕ)) → map step_text xs ++ debug_line ∷ us ≡ map step_text ys ++ debug_line ∷ vs → (length xs ≡ length ys) × (us ≡ vs)
 same_debug [] [] us vs e = (refl, (heads_same debug_line debug_line us vs e).1)
 same_debug [] (y ∷ ys) us vs e = absurd (no_debug y (sym (heads_same debug_line (step_text y) us (map step_text ys ++ debug_line ∷ vs) e).0))
@@ -209,7 +209,7 @@ walk_grammar version = record {
   one = walk_once version;
 }
 
--- what stands before some commands, line by line
+-- what is before some commands, line by line
 pub before_lines : (steps : List Step) (commands : List (List ℕ)) (rest : List ℕ) →
     steps_text steps ++ (debug_line ++ 10 ∷ (with_ends commands ++ rest)) ≡ with_ends (map step_text steps ++ debug_line ∷ commands) ++ rest
 before_lines steps commands rest =

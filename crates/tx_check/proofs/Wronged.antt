@@ -1,4 +1,4 @@
--- A line that is none of its place's, or one too many there, is at fault where the text stands so.
+-- A line that is none of its place's, or one too many there, is at fault in its context.
 use Rattle.std.proofs.Common.{◌≡◌, ◌∙◌, ℕ, ◌≤◌, ◌⊎◌, Bool, List, Option, Some, None, IfSome, inl, inr, subst, sym, arith}
 use Rattle.tx_check.specs.Right.{IsNoneThere, IsTooMany}
 use Rattle.tx_check.specs.Contexts.{counted, AmongCommands, AmongLines, AmongSteps, AtHeader, Context, IsPlaceOf}

@@ -1,4 +1,4 @@
--- Which lines may stand behind the header of a text, and the fault of one that may not.
+-- Which lines may be after the header of a text, and the fault of one that may not.
 use Rattle.std.specs.Prelude.{◌≡◌, ℕ, ◌<◌, ◌≤◌, true, false, List, length, ◌⊎◌}
 use Rattle.tx_check.specs.Reads.{IsRead}
 use Rattle.tx_check.specs.Right.{IsNoneThere, IsRight, IsTooMany}
@@ -15,7 +15,7 @@ use Rattle.tx_lines.specs.declared.faults.Fault.TheVariants.{NotALine, TooLong}
 use Rattle.tx_lines.specs.declared.instructions.Line.{Line}
 use Rattle.tx_lines.specs.declared.read.header.Version.{Version}
 
--- the line may stand at that place of the text
+-- the line may be at that place of the text
 pub record IsAllowedAt (text : List ℕ) (place : Place) (line : TextLine) : Type 0 where
   pub short : length line.bytes.now ≤ 512
   pub room : IsTooMany place.part place.count place.labels line.bytes.now → ⊥
@@ -23,12 +23,12 @@ pub record IsAllowedAt (text : List ℕ) (place : Place) (line : TextLine) : Typ
   pub right : IsRight place.part place.version line.bytes.now
   pub once : place.part ≡ parts.ProgramLine → IsTwice text line.number line.bytes.now → ⊥
 
--- nothing is told of the line at that place: it may stand there, and where labels alone are looked at its label is somewhere
+-- nothing is reported of the line at that place: it may be there, and where only labels are checked its label is somewhere
 pub record IsQuietAt (text : List ℕ) (place : Place) (line : TextLine) : Type 0 where
   pub may : IsAllowedAt text place line
   pub linked : place.part ≡ parts.Link → IsLinkedLine place.version text line.bytes.now
 
--- why it may not, where it is neither too long nor one too many: it has no end, or is none of the grammar's, or is a second label
+-- why it may not, where it is neither too long nor one too many: it has no end, or the grammar does not have it, or it is a second label
 abbrev pub IsNoLineAt : List ℕ → Place → TextLine → Type 0
 IsNoLineAt text place line =
     (line.is_ended ≡ false) ⊎ (IsNoneThere place.part place.version line.bytes.now ⊎ ((place.part ≡ parts.ProgramLine) × IsTwice text line.number line.bytes.now))

@@ -1,4 +1,4 @@
--- How a text is read from one end, and what is told of it written to another.
+-- How a text is read from one end, and the report on it written to another.
 use Rattle.std.specs.Prelude.{◌≡◌, ◌==◌, ℕ, ◌+◌, ◌<◌, ◌≤◌, Bool, List, Option, length, take, ◌⊎◌, Result, Ok, Err, IfSome}
 use Rattle.std.specs.Io.KnownBytes.{Appends, Keeps}
 use Rattle.tx_lines.specs.Ends.{Counts}
@@ -6,21 +6,21 @@ use Rattle.tx_lines.specs.Whole.{IsCalm}
 use Rattle.tx_lines.specs.declared.faults.Fault.{Fault}
 use Rattle.tx_lines.specs.declared.faults.Fault.TheVariants.{TooLong, Reader, Writer, NoMemory}
 
--- a text of no more bytes than one may have was left to read, and that is said of it
+-- a text of no more bytes than one may have was left to read, and that is the report on it
 pub record Hears (Says : List ℕ → List ℕ → Type 0) (left : Option (List ℕ)) (report : List ℕ) : Type 0 where
   pub text : List ℕ
   pub whole : IfSome left (λ bytes. bytes ≡ text)
   pub short : length text ≤ 1048576
   pub said : Says text report
 
--- all that is told is written, and it is nothing exactly where that is answered
+-- all of the report is written, and it is empty exactly where that is answered
 pub record WritesReport (Says : List ℕ → List ℕ → Type 0) (left written : Option (List ℕ)) (is_read : Bool) (written' : Option (List ℕ)) : Type 0 where
   pub report : List ℕ
   pub hears : Hears Says left report
   pub answer : is_read ≡ (length report == 0)
   pub bytes : Appends written written' report
 
--- so many bytes of what is told are written
+-- so many bytes of the report are written
 pub record WritesFront (Says : List ℕ → List ℕ → Type 0) (left written written' : Option (List ℕ)) : Type 0 where
   pub report : List ℕ
   pub count : ℕ
@@ -28,7 +28,7 @@ pub record WritesFront (Says : List ℕ → List ℕ → Type 0) (left written w
   pub inside : count ≤ length report
   pub bytes : Appends written written' (take count report)
 
--- a text is read, and what is told of it written, or a front of that, or nothing, as the fault says
+-- a text is read, and the report on it written, or a front of that, or nothing, as the fault says
 abbrev pub Checks : (List ℕ → List ℕ → Type 0) → Option (List ℕ) → Counts → Option (List ℕ) → Counts → Result Bool Fault → Counts → Option (List ℕ) → Counts → Type 0
 Checks Says left reads written writes (Ok is_read) reads' written' writes' =
     WritesReport Says left written is_read written' × IsCalm reads reads' × IsCalm writes writes'

@@ -1,4 +1,4 @@
--- What is to stand in a line of a text, by the kind of the text and the lines before it.
+-- What a line of a text must be, by the kind of the text and the lines before it.
 use Rattle.std.specs.Prelude.{◌≡◌, ℕ, zero, suc, ◌+◌, ◌-◌, ◌^◌, ◌<◌, min, Bool, List, ◌⊎◌, take, if◌then◌else◌}
 use Rattle.std.specs.Str.{bytes_eq}
 use Rattle.tx_check.specs.Kinds.{head_of, kind_of}
@@ -15,7 +15,7 @@ use Rattle.tx_lines.specs.declared.read.header.TextKind.TheVariants.{Schedule, P
 use Rattle.tx_lines.specs.declared.read.header.Version.{Version}
 use Rattle.tx_lines.specs.declared.read.header.Version.TheVariants.{Two}
 
--- a text stands at its header; or among steps, among commands, or among the lines of a program: after so many of them, of a program after so many
+-- a line is the header; or it is among steps, among commands, or among the lines of a program: after so many of them, in a program after so many
 -- instructions and so many labels
 pub data Context : Type 0 where
   AtHeader : TextKind → Context
@@ -27,7 +27,7 @@ pub data Context : Type 0 where
 abbrev pub begins_label : List ℕ → Bool
 begins_label line = bytes_eq (take 6 line) label_front
 
--- where a text stands after one line more
+-- the context after one more line
 abbrev pub next_context : Context → List ℕ → Context
 next_context (AtHeader Schedule) line = AmongSteps 0
 next_context (AtHeader Program) line = AmongLines 0 0
@@ -35,12 +35,12 @@ next_context (AmongSteps steps) line = if bytes_eq line debug_line then AmongCom
 next_context (AmongCommands commands) line = AmongCommands (commands + 1)
 next_context (AmongLines instructions labels) line = if begins_label line then AmongLines instructions (labels + 1) else AmongLines (instructions + 1) labels
 
--- where it stands after so many lines
+-- the context after so many lines
 abbrev pub context_after : Kind → List ℕ → ℕ → Context
 context_after kind text zero = AtHeader (head_of kind)
 context_after kind text (suc count) = next_context (context_after kind text count) (first_line (after_lines count text))
 
--- a line that was one too many stands before that
+-- a line that was one too many is before that
 abbrev pub IsPastAll : Context → Type 0
 IsPastAll (AtHeader kind) = ⊥
 IsPastAll (AmongSteps steps) = 4096 < steps
@@ -53,11 +53,11 @@ IsVersionOf kind text version =
     ((header : Header) × (rest : List ℕ) × SpellsHeader kind text header rest × (version ≡ header.version))
     ⊎ (((header : Header) (rest : List ℕ) → SpellsHeader kind text header rest → ⊥) × (version ≡ Two))
 
--- a count that stays at the most that there is room for
+-- a count that stops at the most that there is room for
 abbrev pub counted : ℕ → ℕ
 counted number = min number (2 ^ 64 - 1)
 
--- the place is where a text stands; behind a line whose label is nowhere, lines of a program are not counted
+-- the place is of that context; after a line whose label is nowhere, lines of a program are not counted
 abbrev pub IsPlaceOf : Context → Place → Type 0
 IsPlaceOf (AtHeader kind) place = (place.part ≡ parts.Header kind) × (place.count ≡ 0) × (place.labels ≡ 0)
 IsPlaceOf (AmongSteps steps) place = (place.part ≡ parts.Step) × (place.count ≡ counted steps)

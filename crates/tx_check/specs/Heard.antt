@@ -1,4 +1,4 @@
--- Facts of a text that was read to its end and of what is told of it, with their proofs.
+-- Facts of a text that was read to its end and of the report on it, with their proofs.
 use Rattle.std.proofs.Common.{◌≡◌, ◌≤◌, ◌++◌, ℕ, List, [], length, Option, Some, None, Bool, IfSome, Result, Ok, Err, refl, subst, sym}
 use Rattle.std.specs.Result.{IsErrAnd}
 use Rattle.std.proofs.KnownBytes.{Consumes-all}
@@ -21,7 +21,7 @@ hears Says left left' text report consumes end short is = record {
   said = is;
 }
 
--- what came of the writing of what is told
+-- what came of the writing of the report
 written_front : (Says : List ℕ → List ℕ → Type 0) (left written written' : Option (List ℕ)) (reads reads' writes writes' : Counts) (report : List ℕ) (fault : Fault)
     → Hears Says left report → WritesWhole written writes report (Err fault) written' writes' → Checks Says left reads written writes (Err fault) reads' written' writes'
 written_front Says left written written' reads reads' writes writes' report Writer heard wrote =

@@ -1,4 +1,4 @@
--- Which kind of text one is meant to be.
+-- Which kind a text is meant to be.
 use Rattle.std.specs.Prelude.{ℕ, Bool, false, ◌&&◌, ◌||◌, List, [], ◌∷◌, Option, Some, None, nat_eq, codes, if◌then◌else◌}
 use Rattle.std.specs.Str.{bytes_eq}
 use Rattle.tx_check.specs.declared.kinds.Kind.{Kind}
@@ -42,7 +42,7 @@ has_debug (byte ∷ bytes) = (nat_eq byte 10 && begins_with_debug bytes) || has_
 abbrev pub debug_ahead : List ℕ → Bool
 debug_ahead left = begins_with_debug left || has_debug left
 
--- the kind of a text: a program by its first line; else a schedule with commands where a line `debug` stands behind that; else a schedule
+-- the kind of a text: a program by its first line; else a schedule with commands where a line `debug` follows; else a schedule
 abbrev pub kind_of : List ℕ → Kind
 kind_of text = if is_program_head (first_line text) then Program else if has_debug text then Walk else Schedule
 

@@ -23,7 +23,7 @@ labels_in zero number text = []
 labels_in (suc count) number text =
     if begins_label (first_line text) then (number, first_line text) ∷ labels_in count (number + 1) (behind text) else labels_in count (number + 1) (behind text)
 
--- the labels that are known are those among the lines that they were sought in
+-- the known labels are those among the lines that were searched
 pub record AreKnown (labels : Labels) : Type 0 where
   pub known : map label_at labels.known.items ≡ labels_in labels.passed 1 (left_of labels.text)
   pub behind : left_of labels.behind ≡ after_lines labels.passed (left_of labels.text)

@@ -25,12 +25,12 @@ pub record IsNear (word name : List ℕ) (edits : ℕ) : Type 0 where
   pub longer : length word ≤ length name + 4
   pub texts : IsUtf8 name × IsUtf8 word
 
--- to each of these names that is near so many edits lead at least
+-- each of these names that is near takes so many edits at least
 abbrev pub AreFar : List ℕ → ℕ → List (List ℕ) → Type 0
 AreFar word least [] = Unit {0}
 AreFar word least (name ∷ names) = ((edits : ℕ) → IsNear word name edits → least ≤ edits) × AreFar word least names
 
--- it is the first of the names to which the fewest edits lead
+-- it is the first of the names that take the fewest edits
 pub record IsNearest (word : List ℕ) (names : List (List ℕ)) (name : List ℕ) (edits : ℕ) : Type 0 where
   pub before : List (List ℕ)
   pub after : List (List ℕ)
@@ -39,12 +39,12 @@ pub record IsNearest (word : List ℕ) (names : List (List ℕ)) (name : List �
   pub first : AreFar word (edits + 1) before
   pub least : AreFar word edits after
 
--- the nearest of the names to which fewer than so many edits lead; none, where there is none
+-- the nearest of the names that take fewer than so many edits; none, where there is none
 abbrev pub FindsNear : List ℕ → List (List ℕ) → ℕ → Option (List ℕ × ℕ) → Type 0
 FindsNear word names most None = AreFar word most names
 FindsNear word names most (Some found) = IsNearest word names found.0 found.1 × (found.1 < most)
 
--- the same, where nothing is said of how many edits lead there
+-- the same, where nothing is said of how many edits it takes
 abbrev pub FindsName : List ℕ → List (List ℕ) → ℕ → Option (List ℕ) → Type 0
 FindsName word names most None = AreFar word most names
 FindsName word names most (Some name) = (edits : ℕ) × IsNearest word names name edits × (edits < most)
@@ -58,7 +58,7 @@ bound most (Some found) = found.1
 abbrev pub label_name : List ℕ → List ℕ
 label_name line = drop 6 line
 
--- names, and that of a line behind them where it is a label
+-- names, and that of a line after them where it is a label
 abbrev pub with_name : List ℕ → List (List ℕ) → List (List ℕ)
 with_name line names = if begins_label line then names ++ label_name line ∷ [] else names
 

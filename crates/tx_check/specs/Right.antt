@@ -1,4 +1,4 @@
--- Whether a line is right by itself, by what is to stand in its place.
+-- Whether a line is right by itself, by what must be in its place.
 use Rattle.std.specs.Prelude.{◌≡◌, ◌≢◌, List, ℕ, ◌≤◌, ◌⊎◌}
 use Rattle.tx_base.specs.declared.steps.Step.{Step}
 use Rattle.tx_check.specs.declared.places.Part.{Part}
@@ -29,7 +29,7 @@ pub record SpellsLine (version : Version) (line : List ℕ) : Type 0 where
   pub fits : IsLineOf version one
   pub spelled : line ≡ line_text one
 
--- the line is one that may stand there; first lines are not read by themselves
+-- the line is one that may be there; first lines are not read by themselves
 abbrev pub IsRight : Part → Version → List ℕ → Type 0
 IsRight (parts.Header kind) version line = ⊥
 IsRight parts.Step version line = (line ≡ debug_line) ⊎ SpellsStep version line
@@ -43,7 +43,7 @@ IsNoneThere parts.Step version line = IsNoLineBefore version line
 IsNoneThere parts.Command version line = IsNoCommand version line
 IsNoneThere _ version line = IsNoLineOf version line
 
--- so many lines of its part stand before it that the line is one too many; of a program there are so many instructions, and so many labels
+-- so many lines of its part are before it that the line is one too many; of a program there are so many instructions, and so many labels
 abbrev pub IsTooMany : Part → ℕ → ℕ → List ℕ → Type 0
 IsTooMany parts.Step count labels line = (4096 ≤ count) × (line ≢ debug_line)
 IsTooMany parts.Command count labels line = 4096 ≤ count

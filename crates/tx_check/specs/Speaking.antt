@@ -18,7 +18,7 @@ use Rattle.tx_check.specs.declared.trouble.WordTrouble.TheVariants as words
 use Rattle.tx_translate.specs.OwnLines.{without_return}
 use Rattle.tx_translate.specs.Words.{words_in}
 
--- the sentences about lines: about the command that is to read the text, about sessions, about what stands in a wrong place, and all of them
+-- the sentences about lines: about the command that must read the text, about sessions, about what is in a wrong place, and all of them
 abbrev pub reader_sentence : LineTrouble → List ℕ
 reader_sentence ProgramHere = codes "this is a program, for txos run; a schedule is wanted"
 reader_sentence ScheduleHere = codes "this is a schedule, for txos replay; a program is wanted"
@@ -131,7 +131,7 @@ SaysOfLine (whats.Line trouble) sentence = sentence ≡ line_sentence trouble
 SaysOfLine (whats.OddByte byte) sentence = SpeaksOfByte byte sentence
 SaysOfLine what sentence = Unit {0}
 
--- a space is at that column that parts no two words: it is first, or last, or before another one
+-- a space at that column separates no two words: it is first, or last, or before another one
 pub record IsOddSpace (line : List ℕ) (column : ℕ) : Type 0 where
   pub front : List ℕ
   pub rest : List ℕ
@@ -139,7 +139,7 @@ pub record IsOddSpace (line : List ℕ) (column : ℕ) : Type 0 where
   pub at : column ≡ length front + 1
   pub odd : (front ≡ []) ⊎ ((rest ≡ []) ⊎ ((others : List ℕ) × (rest ≡ 32 ∷ others)))
 
--- no word is at that column, or behind it; a line may end with one byte 13
+-- no word is at that column, or after it; a line may end with one byte 13
 pub record IsAfterWords (line : List ℕ) (column : ℕ) : Type 0 where
   pub front : List ℕ
   pub rest : List ℕ
@@ -149,7 +149,7 @@ pub record IsAfterWords (line : List ℕ) (column : ℕ) : Type 0 where
   pub none : words_in rest ≡ []
   pub ends : (end ≡ []) ⊎ (end ≡ 13 ∷ [])
 
--- a byte that stands in no line of the first two versions
+-- a byte that no line of the first two versions has
 abbrev pub is_odd : ℕ → Bool
 is_odd byte = not (nat_eq byte 32 || is_ascii_graphic byte)
 
@@ -210,13 +210,13 @@ pub data SpeaksAt (line : List ℕ) (column : ℕ) (sentence : List ℕ) : Type 
   OfByte : (byte : ℕ) → IsByteAt line column byte → is_odd byte ≡ true → SpeaksOfByte byte sentence → SpeaksAt line column sentence
   OfWord : (word : List ℕ) → IsWordAt line column word → SpeaksOf word sentence → SpeaksAt line column sentence
 
--- what is told at that column of a line is so, where it is about no word
+-- what is reported at that column of a line is true, where it is about no word
 abbrev pub IsPlacedInLine : List ℕ → ℕ → What → Type 0
 IsPlacedInLine line column (whats.Line trouble) = IsTrueOf trouble line column
 IsPlacedInLine line column (whats.OddByte byte) = IsByteAt line column byte × (is_odd byte ≡ true)
 IsPlacedInLine line column what = Unit {0}
 
--- the kinds of faults: a line is none of the grammar's, or has no end; it names a label that is nowhere; it is too long, or one too many
+-- the kinds of faults: the grammar has no such line, or it has no end; it names a label that is nowhere; it is too long, or one too many
 pub data FaultKind : Type 0 where
   OfGrammar : FaultKind
   OfLabel : FaultKind
@@ -244,17 +244,17 @@ kind_of_what (whats.Line trouble) = kind_of_line trouble
 kind_of_what (whats.Word word trouble) = kind_of_word trouble
 kind_of_what (whats.OddByte byte) = OfGrammar
 
--- what stands before a label that is nowhere, and before no other word
+-- what is before a label that is nowhere, and before no other word
 abbrev pub no_label : List ℕ
 no_label = codes "no such label: "
 
--- the sentence speaks of that word behind that front
+-- the sentence speaks of that word after that front
 pub record SpeaksAfter (front word sentence : List ℕ) : Type 0 where
   pub after : List ℕ
   pub spelled : sentence ≡ front ++ (said_word word ++ after)
   pub ends : is_after after ≡ true
 
--- the sentence speaks of a word behind another front
+-- the sentence speaks of a word after another front
 pub record SpeaksOfOther (sentence : List ℕ) : Type 0 where
   pub front : List ℕ
   pub word : List ℕ
@@ -274,8 +274,8 @@ IsOfKind OfGrammar sentence = SaysOfKind OfGrammar sentence ⊎ (((byte : ℕ) �
 IsOfKind OfLabel sentence = (word : List ℕ) × SpeaksAfter no_label word sentence
 IsOfKind OfLength sentence = SaysOfKind OfLength sentence
 
--- what is told of a line has that kind there: too long, or one too many; of a label, where a line is right that is to name one; else none of the
--- grammar's, a label that stands twice, or without an end
+-- what is reported of a line has that kind there: too long, or one too many; of a label, where a line is right that must name one; else none of the
+-- grammar's, a label that is there twice, or without an end
 abbrev pub IsKindAt : Place → List ℕ → ℕ → List ℕ → Bool → FaultKind → Type 0
 IsKindAt place text number line is_ended OfLength = (512 < length line) ⊎ IsTooMany place.part place.count place.labels line
 IsKindAt place text number line is_ended OfLabel = (place.part ≡ parts.Link) × IsRight place.part place.version line
@@ -283,7 +283,7 @@ IsKindAt place text number line is_ended OfGrammar =
     (length line ≤ 512) × (IsTooMany place.part place.count place.labels line → ⊥)
     × (IsNoneThere place.part place.version line ⊎ (((place.part ≡ parts.ProgramLine) × IsTwice text number line) ⊎ (is_ended ≡ false)))
 
--- what was found of the line that is meant can be told of its own one: that is too long where the other is
+-- what was found of the line that is meant can be reported of its own one: that is too long where the other is
 pub record IsFitting (line : List ℕ) (what : What) : Type 0 where
   pub long : 512 < length (without_return line) → kind_of_what what ≡ OfLength
   pub short : what ≡ whats.Line TooLong → 512 < length line

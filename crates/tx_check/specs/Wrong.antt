@@ -1,4 +1,4 @@
--- Which lines of a text behind the first are at fault in their places, whatever other lines are.
+-- Which lines of a text after the first are at fault in their places, whatever other lines are.
 use Rattle.std.specs.Prelude.{◌≡◌, ◌≢◌, ℕ, ◌-◌, ◌<◌, ◌≤◌, Bool, true, false, List, [], ◌∷◌, ◌++◌, Option, Some, None, length, is_some, ◌⊎◌}
 use Rattle.tx_check.specs.Kinds.{front_word, head_of, kind_of}
 use Rattle.tx_check.specs.Numbered.{after_lines, line_at}
@@ -21,7 +21,7 @@ IsOneTooMany (AmongSteps steps) line = (4096 ≤ steps) × (line ≢ debug_line)
 IsOneTooMany (AmongCommands commands) line = 4096 ≤ commands
 IsOneTooMany (AmongLines instructions labels) line = ((256 ≤ labels) × BeginsLabel line) ⊎ ((1024 ≤ instructions) × (BeginsLabel line → ⊥))
 
--- the line behind so many is
+-- the line after so many is
 abbrev pub IsTooManyAfter : List ℕ → ℕ → Type 0
 IsTooManyAfter text count = IsOneTooMany (context_after (kind_of text) text count) (first_line (after_lines count text))
 
@@ -58,7 +58,7 @@ pub record NamesNowhere (text line : List ℕ) : Type 0 where
   pub named : IsWordOf (64 ∷ name) line
   pub nowhere : (number : ℕ) → line_at number text ≢ label_front ++ name
 
--- the line of that number is at fault where the text stands so, whatever label it names
+-- the line of that number is at fault in that context, whatever label it names
 pub data IsWrongIn (version : Version) (text : List ℕ) (number : ℕ) (context : Context) (line : List ℕ) (is_ended : Bool) : Type 0 where
   TooLong : 512 < length line → IsWrongIn version text number context line is_ended
   NoEnd : is_ended ≡ false → IsWrongIn version text number context line is_ended
@@ -74,7 +74,7 @@ IsWrong version text number context line is_ended = IsWrongIn version text numbe
 abbrev pub has_end : ℕ → List ℕ → Bool
 has_end number text = is_some (after_line (after_lines (number - 1) text))
 
--- the line of that number is there, behind the first, and is at fault
+-- the line of that number is there, after the first, and is at fault
 pub record IsWrongLine (text : List ℕ) (number : ℕ) : Type 0 where
   pub past_first : 2 ≤ number
   pub there : after_lines (number - 1) text ≢ []
@@ -103,7 +103,7 @@ IsNamedNowhere text (line.Instruction instruction) = IsNowhere text (label_in in
 abbrev pub IsLinkedLine : Version → List ℕ → List ℕ → Type 0
 IsLinkedLine version text line = (one : Line) → IsLineOf version one → line ≡ line_text one → IsNamedNowhere text one → ⊥
 
--- the line of that number is there, and is one of the text's version that names a label which is nowhere
+-- the line of that number is there, and is one of the text's version that names a label that is nowhere
 pub record IsUnlinked (text : List ℕ) (number : ℕ) : Type 0 where
   pub there : after_lines (number - 1) text ≢ []
   pub version : Version
@@ -134,14 +134,14 @@ IsFaultIn text (faults.NotALine line) = IsNoLineIn text line
 IsFaultIn text (faults.NoLabel line) = IsNoLabelIn text line
 IsFaultIn text _ = ⊥
 
--- behind the line of that fault of the text the line of that number is at fault too: where the fault is a label that is nowhere, by its label; else in its place
+-- after the line of that fault of the text the line of that number is at fault too: where the fault is a label that is nowhere, by its label; else in its place
 abbrev pub IsWrongAfterFault : Fault → List ℕ → ℕ → Type 0
 IsWrongAfterFault (faults.NotALine line) text number = (line < number) × IsWrongThere text number
 IsWrongAfterFault (faults.TooLong line) text number = (line < number) × IsWrongThere text number
 IsWrongAfterFault (faults.NoLabel line) text number = (line < number) × IsUnlinked text number
 IsWrongAfterFault _ text number = ⊥
 
--- the text is at fault, and so is the line of that number, behind the line of the fault
+-- the text is at fault, and so is the line of that number, after the line of the fault
 pub record IsWrongToo (text : List ℕ) (number : ℕ) : Type 0 where
   pub fault : Fault
   pub is_fault : IsAtFault (kind_of text) text fault

@@ -1,4 +1,4 @@
-//! Tells of a text what is wrong with it.
+//! Reports what is wrong with a text.
 ghost use Rattle.std.specs.Prelude.{◌≡◌, ◌≢◌, ◌⊎◌, ◌+◌, ◌-◌, ◌<◌, ◌≤◌, ℕ, List, IfOk, OnOk, length, string_bytes};
 ghost use Rattle.tx_check.specs.AfterHeader.{IsQuietAt};
 ghost use Rattle.tx_check.specs.Kinds.{kind_of};
@@ -34,21 +34,21 @@ use tx_base::NoMemory;
 use tx_lines::Fault;
 use tx_translate::{MeantLines, Room};
 
-/// What is told of a text of any version: nothing exactly where what it means is a text of its kind
-/// (`kind_of`), and so is read by the command of that kind. Else a line for each line at fault,
-/// `line L, column C: ` and a sentence that says what was expected there. The first one tells of the
-/// line at which the command finds the text at fault, and each later one of a line that is at fault
-/// in its place, whatever stands before it. None of those is left out, up to the first line that is
-/// one too many; where all lines are right but for labels that are nowhere, none that names one.
+/// The report on a text of any version: nothing exactly where what it means is a text of its kind
+/// (`kind_of`), and so is read by the command of that kind. Else a diagnostic for each line at
+/// fault: `line L, column C: ` and a sentence that says what was expected there. The first is of
+/// the line at which the command finds the text at fault, and each later one of a line that is at
+/// fault in its place, whatever is before it. None of those is left out, up to the first line that
+/// is one too many; where only labels are nowhere, no line that names one is left out.
 ///
 /// The first sentence is of the kind of the fault (`kind_of_fault`): that a line is too long, or one
-/// too many; that there is no such label; or that it is none of the grammar's.
+/// too many; that there is no such label; or that the grammar has no such line.
 ///
 /// Lines count from 1 and columns in bytes from 1, both in the text as it is given; the column after
-/// a line's last byte stands for its end.
+/// a line's last byte is its end.
 ///
-/// A text that is right is read once. Where memory for that is refused, it is done without: the only error
-/// is that a growth of what is told was refused.
+/// A text that is right is read once. Where memory for that is refused, the check goes on without
+/// it: the only error is that a growth of the report was refused.
 pub fn check_text(alloc: Global, text: &[u8]) -> Result<String, NoMemory>
     ensures report { IfOk result (λ report. IsReportOf text.now (string_bytes report)) }
     ensures kind { IfOk result (λ report. (fault : Fault) → IsMeantFault text.now fault →
@@ -60,7 +60,7 @@ pub fn check_text(alloc: Global, text: &[u8]) -> Result<String, NoMemory>
     }
 }
 
-/// As `check_text`. Memory is taken for what is told alone.
+/// As `check_text`. Memory is taken only for the report.
 pub fn report_text(alloc: Global, text: &[u8]) -> Result<String, NoMemory>
     ensures report { IfOk result (λ report. IsReportOf text.now (string_bytes report)) }
     ensures kind { IfOk result (λ report. (fault : Fault) → IsMeantFault text.now fault →
@@ -74,8 +74,8 @@ pub fn report_text(alloc: Global, text: &[u8]) -> Result<String, NoMemory>
     }
 }
 
-/// What is told of a text that means those lines, which are at fault: the line of the fault, and the
-/// lines behind it.
+/// The report on a text that means those lines, which are at fault: the line of the fault, and the
+/// lines after it.
 pub fn report_from(
     alloc: Global,
     kind: Kind,
@@ -116,7 +116,7 @@ pub fn report_from(
     Ok(report)
 }
 
-/// What is told of the line at fault.
+/// The trouble with the line at fault.
 fn trouble_at_fault<'a>(
     lines: MeantLines<'a>,
     text: &Labels<'_>,
@@ -167,7 +167,7 @@ fn place_of(kind: Kind, text: MeantLines<'_>, fault: Fault) -> (Place, MeantLine
     (place_by(fault, place), left)
 }
 
-/// The place of a line at fault: of one whose label is nowhere that of such a line.
+/// The place of a line at fault. A line whose label is nowhere has a place of its own.
 fn place_by(fault: Fault, place: Place) -> Place
     ensures version { result.version ≡ place.version }
     ensures label { (line : ℕ) → fault ≡ faults.NoLabel line → result.part ≡ parts.Link }
@@ -182,9 +182,9 @@ fn place_by(fault: Fault, place: Place) -> Place
     }
 }
 
-/// Tells of the lines behind so many that are meant, where they are at fault: up to the first one
-/// that is one too many. The first behind them stands at that place. The text itself was told of up
-/// to a line of its own.
+/// Reports the lines at fault after so many that are meant, up to the first one that is one too
+/// many. The first line after them has that place. The text itself is reported up to a line of its
+/// own.
 fn report_after(
     alloc: Global,
     meant: &Labels<'_>,
@@ -231,8 +231,8 @@ fn report_after(
     Ok(())
 }
 
-/// Tells of a line that is meant by the text's own one of that number, at that place, where it is at
-/// fault. Says how far the text itself is told of then.
+/// Reports a line at fault at that place, which the text's own line of that number means. Says how
+/// far the text itself is reported then.
 fn report_line<'a>(
     alloc: Global,
     meant: &Labels<'_>,

@@ -1,4 +1,4 @@
-//! Tells of a text what is wrong with it for one of the commands.
+//! Reports what is wrong with a text for one of the commands.
 ghost use Rattle.std.specs.Prelude.{◌≡◌, ◌≢◌, ◌≤◌, Some, IfNone, IfOk, IfSome, ℕ, List, string_bytes};
 ghost use Rattle.tx_check.specs.Kinds as kinds_spec;
 ghost use Rattle.tx_check.specs.Readers.{IsReportAs, IsReportFor, IsSaidFor};
@@ -24,13 +24,14 @@ use tx_base::NoMemory;
 use tx_lines::{Fault, put};
 use tx_translate::{Meant, MeantLines};
 
-/// What is told of a text of any version for that command: nothing exactly where the command reads the
-/// text. Else first of the line at which it finds the text at fault, as `check_text` tells it, and of
-/// each line at fault behind it where the command of the text's own kind finds it at fault there too.
-/// Where no command is named, what the text was read as stands first.
+/// The report on a text of any version for that command: nothing exactly where the command reads
+/// the text. Else first the line at which it finds the text at fault, as `check_text` reports it,
+/// and each line at fault after it where the command of the text's own kind finds it at fault there
+/// too. Where no command is named, the report begins with what the text was read as.
 ///
-/// Memory is taken for what is told and for what the command would read. The only error is that such a
-/// growth was refused; what the command of the text's own kind would read is done without, where it was.
+/// Memory is taken for the report and for what the command would read. The only error is that such
+/// a growth was refused; without memory for what the command of the text's own kind reads it goes
+/// on.
 pub fn check_text_for(alloc: Global, reader: Reader, text: &[u8]) -> Result<String, NoMemory>
     ensures { IfOk result (λ said. IsSaidFor reader text.now (string_bytes said)) }
 {
@@ -41,7 +42,7 @@ pub fn check_text_for(alloc: Global, reader: Reader, text: &[u8]) -> Result<Stri
     }
 }
 
-/// Puts what a text was read as before what is told of it.
+/// Puts what a text was read as before the report on it.
 fn headed(alloc: Global, text: &[u8], report: String) -> Result<String, AllocError>
     ensures { IfOk result (λ said. string_bytes said
         ≡ spec.headed (kinds_spec.kind_of (meant_of text.now)) (string_bytes report)) }
@@ -55,7 +56,7 @@ fn headed(alloc: Global, text: &[u8], report: String) -> Result<String, AllocErr
     Ok(said)
 }
 
-/// What is told of a text for that command.
+/// The report on a text for that command.
 fn report_for(alloc: Global, reader: Reader, text: &[u8]) -> Result<String, NoMemory>
     ensures { IfOk result (λ report. IsReportFor reader text.now (string_bytes report)) }
 {
@@ -68,7 +69,7 @@ fn report_for(alloc: Global, reader: Reader, text: &[u8]) -> Result<String, NoMe
     report_as(alloc, reader.kind(meant), meant, text)
 }
 
-/// What is told of a text that is to be of a kind, and is meant to be of that other one.
+/// The report on a text that must be of a kind, and is meant to be of that other one.
 fn report_as(alloc: Global, kind: Kind, meant: Kind, text: &[u8]) -> Result<String, NoMemory>
     requires { meant ≡ kinds_spec.kind_of (meant_of text.now) }
     ensures { IfOk result (λ report. IsReportAs kind text.now (string_bytes report)) }
@@ -80,7 +81,7 @@ fn report_as(alloc: Global, kind: Kind, meant: Kind, text: &[u8]) -> Result<Stri
     }
 }
 
-/// What is told of a text that is to be of a kind, by the reader of that kind.
+/// The report on a text that must be of a kind, by the reader of that kind.
 fn report_as_other(alloc: Global, kind: Kind, text: &[u8]) -> Result<String, NoMemory>
     ensures { IfOk result (λ report. IsReportAs kind text.now (string_bytes report)) }
 {
@@ -94,8 +95,8 @@ fn report_as_other(alloc: Global, kind: Kind, text: &[u8]) -> Result<String, NoM
     }
 }
 
-/// What is told of a text that is at fault for the reader of that kind. The line of the fault has that
-/// number in the text itself.
+/// The report on a text that is at fault for the reader of that kind. The line of the fault has
+/// that number in the text itself.
 fn report_fault(
     alloc: Global,
     kind: Kind,
@@ -129,7 +130,7 @@ fn same_line(found: Option<Fault>, other: Fault) -> Option<Fault>
     (line_of(fault) == line_of(other)).then_some(fault)
 }
 
-/// Tells of a line alone what is wrong with the text there, at the word in that place of it.
+/// Reports only that line: what is wrong with the text there, at the word in that place.
 fn report_alone(
     alloc: Global,
     text: &[u8],

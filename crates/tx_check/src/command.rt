@@ -1,4 +1,4 @@
-//! Reads a text from one end, and writes to another what is told of it.
+//! Reads a text from one end, and writes the report on it to another.
 ghost use Rattle.tx_check.specs.Command.{Checks};
 ghost use Rattle.tx_check.specs.Readers.{IsSaidFor};
 ghost use Rattle.tx_check.specs.declared.readers.Reader.TheVariants as readers;
@@ -9,8 +9,8 @@ use crate::readers::Reader;
 use std::alloc::Global;
 use tx_lines::{Fault, Sink, Source, read_whole, write_whole};
 
-/// Reads a text to its end, and writes what is told of it by the command of its kind, as `check_for`
-/// with no command named.
+/// Reads a text to its end, and writes the report for the command of its kind, as `check_for` with
+/// no command named.
 pub fn check<S: Source, W: Sink>(alloc: Global, source: &mut S, sink: &mut W) -> Result<bool, Fault>
     requires source { IsFresh (S.counts source.old) }
     requires sink { IsFresh (W.counts sink.old) }
@@ -21,11 +21,11 @@ pub fn check<S: Source, W: Sink>(alloc: Global, source: &mut S, sink: &mut W) ->
     check_for(alloc, Reader::Any, source, sink)
 }
 
-/// Reads a text to its end, and writes what `check_text_for` tells of it for that command. Answers
-/// whether the command reads the text, and so nothing is told.
+/// Reads a text to its end, and writes the report of `check_text_for` for that command. Answers
+/// whether the command reads the text, and so nothing is reported.
 ///
 /// `TooLong` at line 0 where the text has more than 1,048,576 bytes, and `Reader` and `NoMemory`: nothing
-/// is written then. `Writer`: a front of what is told is.
+/// is written then. `Writer`: a front of the report is.
 pub fn check_for<S: Source, W: Sink>(
     alloc: Global,
     reader: Reader,

@@ -1,4 +1,4 @@
-//! What is wrong with a line, by what is to stand in its place.
+//! What is wrong with a line, by what must be in its place.
 ghost use Rattle.std.specs.Prelude.{◌≡◌, ◌≤◌, ◌⊎◌, ◌<◌, IfNone, IfSome, IsFalse, IsTrue, false, length};
 ghost use Rattle.tx_check.specs.Labels.{AreKnown};
 ghost use Rattle.tx_check.specs.Right.{IsNoneThere, IsRight, IsTooMany};
@@ -103,7 +103,7 @@ fn trouble_in<'a>(place: &Place, line: &'a [u8], is_ended: bool) -> Trouble<'a>
     no_end(line, is_ended).unwrap_or(unknown())
 }
 
-/// What is told of a line without an end.
+/// The trouble with a line without an end.
 fn no_end(line: &[u8], is_ended: bool) -> Option<Trouble<'static>>
     ensures ended { IfNone result (IsTrue is_ended) }
     ensures unended { IfSome result (λ trouble. is_ended ≡ false) }
@@ -112,14 +112,14 @@ fn no_end(line: &[u8], is_ended: bool) -> Option<Trouble<'static>>
     (!is_ended).then_some(Trouble::of_line(line.len() + 1, LineTrouble::NoEnd))
 }
 
-/// What is told of a line at fault where nothing else is found that is wrong with it.
+/// The trouble with a line at fault where nothing else is found that is wrong with it.
 pub fn unknown() -> Trouble<'static>
     ensures { kind_of_what result.what ≡ OfGrammar }
 {
     Trouble::of_line(1, LineTrouble::NoneOfTheGrammar)
 }
 
-/// What is wrong with a line that is right by itself, beside the other lines of the text.
+/// What is wrong with a line that is right by itself, among the other lines of the text.
 fn trouble_between<'a>(
     lines: MeantLines<'a>,
     text: &Labels<'_>,

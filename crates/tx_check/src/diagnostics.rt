@@ -1,4 +1,4 @@
-//! Puts what is told of lines behind one another.
+//! Appends diagnostics to a report.
 ghost use Rattle.std.specs.Prelude.{◌≡◌, ◌<◌, ◌++◌, ◌∷◌, [], OnOk, codes, length, string_bytes};
 ghost use Rattle.std.specs.Fmt.{decimal};
 ghost use Rattle.tx_check.specs.Speaking.{kind_of_what, line_sentence, FaultKind, IsFitting, IsOfKind, SpeaksAt};
@@ -14,8 +14,8 @@ use std::alloc::{AllocError, Global};
 use std::fmt::Write;
 use tx_base::NoMemory;
 
-/// Appends what is told of a line. The only error is that a growth of memory was
-/// refused: the text may then have some of it behind what it had.
+/// Appends the diagnostic of a line. The only error is that a growth of memory was
+/// refused: the report may then have a front of it after what it had.
 pub fn put_diagnostic(
     alloc: Global,
     report: &mut String,
@@ -34,7 +34,7 @@ pub fn put_diagnostic(
     Ok(())
 }
 
-/// Appends a line that tells a sentence of that line, at that column.
+/// Appends the diagnostic of that line at that column, with a sentence.
 fn put_sentence(
     report: &mut String,
     line: TextLine<'_>,
@@ -55,7 +55,7 @@ fn put_sentence(
     put_line(report, line.number, column, sentence)
 }
 
-/// Appends a line that tells that sentence of the line of that number.
+/// Appends the diagnostic with that sentence of the line of that number.
 fn put_line(report: &mut String, number: u64, column: u64, sentence: &str) -> Result<(), AllocError>
     ensures { OnOk result (string_bytes report.new ≡ string_bytes report.old ++ (codes "line "
         ++ (decimal number ++ (codes ", column " ++ (decimal column

@@ -25,16 +25,16 @@ use crate::places::{Part, Place, TextLine, kind_of_head};
 use tx_lines::{Fault, Header, LINE_BYTES, Line, Name, Version, read_line};
 use tx_translate::{MeantLines, Room};
 
-/// The line behind a header.
+/// The line after a header.
 const FIRST_LINE: u64 = 2;
 
 /// The fault at which the command of that kind finds a text: that of the first line which is at fault
-/// in its place, and where there is none, of the first one which names a label that is nowhere.
+/// in its place, and where there is none, of the first one that names a label that is nowhere.
 /// Nothing where the command reads the text.
 ///
-/// No line is kept, but where labels stand is known. That takes a look at a label for each one of a
-/// program before each of its labels, and before each label that is named: at most 256 looks for each
-/// of 256 labels and of 1,024 instructions.
+/// No line is kept, but where labels are is known. Each label of a program, and each one that is
+/// named, is compared with the labels before it: at most 256 comparisons for each of 256 labels and
+/// of 1,024 instructions.
 pub fn first_fault(kind: Kind, text: &Labels<'_>) -> Option<Fault>
     requires known { AreKnown text.now }
     requires kind { kind ≡ spec.kind_of (left_of text.now.text) }
@@ -54,7 +54,7 @@ pub fn first_fault(kind: Kind, text: &Labels<'_>) -> Option<Fault>
     }
 }
 
-/// The fault of the first line behind a text's header that is at fault in its place.
+/// The fault of the first line after a text's header that is at fault in its place.
 fn fault_after_header(
     kind: Kind,
     text: &Labels<'_>,
@@ -89,7 +89,7 @@ fn fault_after_header(
     None
 }
 
-/// The fault of a line of a text at that place. Nothing where it may stand there.
+/// The fault of a line of a text at that place. Nothing where it may be there.
 fn fault_at(text: &Labels<'_>, place: &Place, line: TextLine<'_>) -> Option<Fault>
     requires { AreKnown text.now }
     ensures may { IfNone result (IsAllowedAt (left_of text.now.text) place.now line.entry) }
@@ -105,7 +105,7 @@ fn fault_at(text: &Labels<'_>, place: &Place, line: TextLine<'_>) -> Option<Faul
     None
 }
 
-/// Whether a line of a program is a label whose name stands in a line before it.
+/// Whether a line of a program is a label whose name is in a line before it.
 fn is_second_label(text: &Labels<'_>, place: &Place, line: TextLine<'_>) -> bool
     requires { AreKnown text.now }
     ensures { IsTrue result ↔ ((place.now.part ≡ parts.ProgramLine)
@@ -114,7 +114,7 @@ fn is_second_label(text: &Labels<'_>, place: &Place, line: TextLine<'_>) -> bool
     matches!(place.part, Part::ProgramLine) && second_label(text, line.number, line.bytes).is_some()
 }
 
-/// The fault of the first line of a program that names a label which is nowhere.
+/// The fault of the first line of a program that names a label that is nowhere.
 fn unlinked(text: &Labels<'_>, header: Header, rest: MeantLines<'_>) -> Option<Fault>
     requires known { AreKnown text.now }
     requires header { SpellsHeader texts.Program (left_of text.now.text) header (left_of rest) }
@@ -135,7 +135,7 @@ fn unlinked(text: &Labels<'_>, header: Header, rest: MeantLines<'_>) -> Option<F
     None
 }
 
-/// Whether a line of a program of that version names a label which is nowhere in the text.
+/// Whether a line of a program of that version names a label that is nowhere in the text.
 pub fn is_unlinked(text: &Labels<'_>, version: Version, line: &[u8]) -> bool
     requires known { AreKnown text.now }
     requires short { length line.now ≤ 512 }
@@ -148,7 +148,7 @@ pub fn is_unlinked(text: &Labels<'_>, version: Version, line: &[u8]) -> bool
     }
 }
 
-/// Whether a line of a program names a label which is nowhere in the text.
+/// Whether a line of a program names a label that is nowhere in the text.
 fn names_nowhere(text: &Labels<'_>, line: &Line) -> bool
     requires { AreKnown text.now }
     ensures { IsTrue result ↔ IsNamedNowhere (left_of text.now.text) line.now }

@@ -1,14 +1,14 @@
-//! The calls and commands by name, and the form of what stands behind each.
+//! The calls and commands by name, and the form of what follows each.
 ghost use Rattle.std.specs.Prelude.{◌≡◌, ◌<◌};
 
-/// A name, and the form of the words behind it, as a person is told it: a word in capitals stands
-/// for others (`Field`), of words that are parted by `|` one is wanted, and one in brackets may be
-/// left out.
+/// A name, and the form of the words after it, as people are shown it: a word in capitals stands
+/// for others (`Field`), of words that are separated by `|` one is expected, and one in brackets
+/// may be left out.
 #[derive(Clone, Copy)]
 pub struct Form {
     pub name: &'static str,
     pub words: &'static str,
-    /// What is wanted in these words. Nothing where there are none.
+    /// What is expected in these words. Nothing where there are none.
     pub meaning: &'static str,
 }
 
@@ -34,7 +34,7 @@ pub enum Field {
     Signals,
     /// The name of a label.
     Name,
-    /// One of these words, which are parted by `|`.
+    /// One of these words, which are separated by `|`.
     Choice(&'static [u8]),
 }
 
@@ -184,7 +184,7 @@ pub fn field_of(word: &'static [u8]) -> Field {
     }
 }
 
-/// Whether a word is one of some choices, which are parted by `|`.
+/// Whether a word is one of some choices, which are separated by `|`.
 pub fn is_among(choices: &[u8], word: &[u8]) -> bool {
     choices
         .split(|byte| *byte == b'|')

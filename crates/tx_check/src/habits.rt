@@ -134,7 +134,7 @@ pub fn command_meant(word: &[u8]) -> Option<Form> {
     form_of(COMMANDS.as_slice(), name.as_bytes())
 }
 
-/// What stands in a table beside some words of which that is one.
+/// What a table has beside some words of which that is one.
 fn beside(table: &'static [(&'static str, &'static str)], word: &[u8]) -> Option<&'static str> {
     let row = table.iter().find(|row| is_among(row.0.as_bytes(), word))?;
     Some(row.1)

@@ -7,7 +7,7 @@ use arrayvec::ArrayVec;
 use tx_lines::{Fault, Header, TextKind, first_header};
 use tx_translate::{MeantLines, Room};
 
-/// The header in the first line of what a text means, and the lines behind it.
+/// The header in the first line of what a text means, and the lines after it.
 pub fn header_of(kind: TextKind, text: MeantLines<'_>) -> Result<(Header, MeantLines<'_>), Fault>
     ensures { MatchResult result
         (λ r. SpellsHeader kind (left_of text.entry) r.0 (left_of r.1))

@@ -1,4 +1,4 @@
-//! Which kind of text one is meant to be.
+//! Which kind a text is meant to be.
 ghost use Rattle.std.specs.Prelude.{◌≡◌, ◌≤◌, IsTrue, length};
 ghost use Rattle.tx_check.specs.Kinds as spec;
 ghost use Rattle.tx_translate.specs.MeantLines.{left_of};

@@ -20,7 +20,7 @@ pub struct LabelLine<'a> {
     line: OwnLine<'a>,
 }
 
-/// Where a label stands. Lines count from 1.
+/// Where a label is. Lines count from 1.
 #[derive(Clone, Copy)]
 pub struct LabelPlace {
     /// The line among those that the text means.
@@ -29,16 +29,16 @@ pub struct LabelPlace {
     pub own: u64,
 }
 
-/// The lines that a text means, and where the first labels stand among them: as many as a program
-/// may have.
+/// The lines that a text means, and where the first labels are among them: as many as a program may
+/// have.
 #[derive(Drop)]
 pub struct Labels<'a> {
     /// All lines.
     pub text: MeantLines<'a>,
     known: ArrayVec<LabelLine<'a>, 256>,
-    /// How many lines these were sought in.
+    /// How many lines were searched for them.
     passed: u64,
-    /// The lines behind those.
+    /// The lines after those.
     behind: MeantLines<'a>,
 }
 
@@ -66,7 +66,7 @@ impl<'a> Labels<'a> {
         }
     }
 
-    /// Where the first line stands that is the label of that name.
+    /// Where the first line is that is the label of that name.
     pub fn place_of(&self, name: &[u8]) -> Option<LabelPlace>
         requires { AreKnown self.now }
         ensures first { IfSome result (IsFirstLabel (left_of self.now.text) name.now) }
@@ -79,7 +79,7 @@ impl<'a> Labels<'a> {
         }
     }
 
-    /// Where the first of the known labels stands that has that name.
+    /// Where the first of the known labels is that has that name.
     fn known_place(&self, name: &[u8]) -> Option<LabelPlace>
         requires { AreKnown self.now }
         ensures first { IfSome result (IsFirstLabel (left_of self.now.text) name.now) }
@@ -98,8 +98,8 @@ impl<'a> Labels<'a> {
         None
     }
 
-    /// Where the first line stands that is the label of that name, where none is before those that
-    /// were not looked at.
+    /// Where the first line is that is the label of that name, where none is among those that were
+    /// searched.
     fn later_place(&self, name: &[u8]) -> Option<LabelPlace>
         requires known { AreKnown self.now }
         requires none { (count : ℕ) → count < self.now.passed →
@@ -124,7 +124,8 @@ impl<'a> Labels<'a> {
     }
 }
 
-/// Puts a line of that number to the labels, where it means one. Says whether there was room for it.
+/// Adds a line of that number to the labels, where it means one. Says whether there was room for
+/// it.
 fn put_label<'a>(known: &mut ArrayVec<LabelLine<'a>, 256>, number: u64, line: OwnLine<'a>) -> bool
     ensures put { IsTrue result → map label_at known.new.items
         ≡ with_label number (line_of line.entry) (map label_at known.old.items) }

@@ -16,7 +16,8 @@ use strsim::osa_distance;
 use tx_base::NoMemory;
 use tx_translate::{MeantLines, OwnLine, Room};
 
-/// How many edits lead to a name at most. One of `n` bytes is near where there are at most `n / 3`.
+/// How many edits a near name takes at most. One of `n` bytes is near where it takes at most
+/// `n / 3`.
 const EDITS: usize = 4;
 
 /// A name that is near to a word.
@@ -44,7 +45,7 @@ pub fn near_name<'a>(
     }
     match names {
         Names::Calls => nearest_name(alloc, CALLS.as_slice(), word),
-        // A program has no `deliver`, which stands last.
+        // A program has no `deliver`, which is last.
         Names::Instructions => nearest_name(alloc, &CALLS[..CALLS.len() - 1], word),
         Names::Commands => nearest_name(alloc, COMMANDS.as_slice(), word),
         Names::Pieces => nearest_name(alloc, PIECES.as_slice(), word),
@@ -63,7 +64,7 @@ fn bare_name(word: &[u8]) -> &[u8]
     }
 }
 
-/// The name here of what has this one elsewhere.
+/// The name here of what has that name elsewhere.
 fn known_elsewhere(names: Names<'_>, word: &[u8]) -> Option<NearName<'static>>
     ensures known { IfSome result (λ name. IsKnown (Some name)) }
     ensures pieces { names.entry ≡ lists.Pieces → result ≡ None }
@@ -103,7 +104,7 @@ fn nearest_in_session(alloc: Global, word: &[u8]) -> Result<Option<NearName<'sta
     Ok(named(nearest))
 }
 
-/// The name that was found, without how many edits lead to it.
+/// The name that was found, without the number of its edits.
 fn named<'a>(found: Option<(NearName<'a>, usize)>) -> Option<NearName<'a>>
     ensures { (word : List ℕ) (names : List (List ℕ)) →
         FindsNear word names 5 (option_map near found.entry) →
@@ -115,8 +116,8 @@ fn named<'a>(found: Option<(NearName<'a>, usize)>) -> Option<NearName<'a>>
     }
 }
 
-/// The nearest name of those that were looked at, or that of a form, or of the step of one, where fewer
-/// edits lead to that: the first where several are as near.
+/// The nearest name of those that were looked at, or that of a form, or of the step of one, where
+/// that takes fewer edits: the first where several are as near.
 fn nearest_form(
     alloc: Global,
     nearest: Option<(NearName<'static>, usize)>,
@@ -154,7 +155,7 @@ fn near_of(form: Form, is_step: bool) -> NearName<'static>
     NearName::Form(form)
 }
 
-/// The nearest name of those that were looked at, or that one more where fewer edits lead to it.
+/// The nearest name of those that were looked at, or that one more where it takes fewer edits.
 fn nearer<'a>(
     alloc: Global,
     nearest: Option<(NearName<'a>, usize)>,
@@ -198,8 +199,8 @@ fn nearest_label<'a>(
     Ok(named(nearest))
 }
 
-/// The nearest label of those that were looked at, or the one that a line means where fewer edits lead
-/// to its name.
+/// The nearest label of those that were looked at, or the one that a line means where its name
+/// takes fewer edits.
 fn nearer_label<'a>(
     alloc: Global,
     nearest: Option<(NearName<'a>, usize)>,
@@ -227,7 +228,7 @@ fn label_name<'a>(line: OwnLine<'a>, room: &'a mut Room) -> Option<&'a [u8]>
     Some(label.split_at(LABEL_FRONT).1)
 }
 
-/// How many edits lead to a name, where they are fewer than those, and few for the name.
+/// How many edits a name takes, where they are fewer than those, and few for the name.
 fn fewer_edits(
     alloc: Global,
     edits: usize,

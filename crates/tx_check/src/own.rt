@@ -1,4 +1,4 @@
-//! The lines of a text itself, where what is wrong with the lines that they mean is told.
+//! The lines of a text itself, in which the faults of the lines that they mean are reported.
 ghost use Rattle.std.specs.Prelude.{◌≡◌, ◌-◌, ◌≤◌, IfSome};
 ghost use Rattle.tx_check.specs.Numbered.{after_lines};
 ghost use Rattle.tx_check.specs.Speaking.{kind_of_what};
@@ -56,8 +56,8 @@ impl<'a> TextFrom<'a> {
     }
 }
 
-/// What is wrong with a line that is meant, told of the own line that means it, in the words of version 3
-/// where that is the text's.
+/// What is wrong with a line that is meant, in the own line that means it, and in the words of
+/// version 3 where that is the text's.
 pub fn own_trouble<'a>(
     is_third: bool,
     part: Part,
@@ -86,8 +86,8 @@ pub fn own_trouble<'a>(
     }
 }
 
-/// The column in an own line of what stands at a column of the line that it means, in the word of that
-/// place: that of the own word in the same place, or the one behind it for the end of the line.
+/// The column in an own line of what is at a column of the line that it means, in the word of that
+/// place: that of the own word in the same place, or the one after it for the end of the line.
 fn own_column(line: &[u8], own: &[u8], place: usize, column: usize) -> usize {
     if line == own {
         return column;
@@ -102,7 +102,7 @@ fn own_column(line: &[u8], own: &[u8], place: usize, column: usize) -> usize {
     }
 }
 
-/// The word at that place of a line that a person wrote. Places count from 0.
+/// The word at that place of an own line. Places count from 0.
 pub fn own_word(line: &[u8], place: usize) -> Option<Word<'_>>
     ensures { IfSome result (λ word. IsColumn line.now word.column) }
 {

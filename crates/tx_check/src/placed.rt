@@ -1,4 +1,4 @@
-//! Whether what is told of a line is so there.
+//! Whether what is reported of a line is true at its column.
 ghost use Rattle.std.specs.Prelude.{◌≡◌, ◌≢◌, ◌<◌, ◌≤◌, ◌⊎◌, ◌++◌, ◌∷◌, [], ℕ, List, IfSome, IsFalse, IsTrue, MatchOption, None, length, option_map, true};
 ghost use Rattle.tx_check.specs.Speaking.{ends_word, is_odd, kind_of_what, word_of, IsAfterWords, IsAt, IsByteAt, IsCommandAt, IsDigitAt, IsFitting, IsOddSpace, IsPlacedInLine, IsStepAt, IsTrueOf, IsWordAt, OfGrammar, OfLabel, OfLength};
 ghost use Rattle.tx_check.specs.Speaking as spec;
@@ -13,8 +13,8 @@ use crate::trouble::{LineTrouble, Names, Trouble, What, WordTrouble};
 use tx_lines::LINE_BYTES;
 use tx_translate::{MeantLines, split_word};
 
-/// What is told of a line where that trouble was found: the trouble, where what it says is so in
-/// its column. Of a line that is too long nothing else is told.
+/// What is reported of a line where that trouble was found: the trouble, where what it says is true
+/// at its column. Of a line that is too long nothing else is reported.
 pub fn placed<'a>(line: &'a [u8], trouble: Trouble<'a>) -> Trouble<'a>
     ensures placed { IsPlaced line.now result }
     ensures long { 512 < length (without_return line.now) →
@@ -38,8 +38,8 @@ pub fn placed<'a>(line: &'a [u8], trouble: Trouble<'a>) -> Trouble<'a>
     }
 }
 
-/// Whether it is that a line is too long, and so it is, or that it is one too many, which is so wherever
-/// it is told.
+/// Whether it says that a line is too long, and it is, or that it is one too many, which is true
+/// wherever it is reported.
 fn is_of_length(line: &[u8], what: &What<'_>) -> bool
     ensures line { IsTrue result → (column : ℕ) → IsPlacedInLine line.now column what.now }
     ensures word { IsTrue result → word_of what.now ≡ None }
@@ -57,8 +57,8 @@ fn is_of_length(line: &[u8], what: &What<'_>) -> bool
     }
 }
 
-/// That there is no such label, told of the first place in a line where the word stands; of the line's
-/// end where it stands nowhere.
+/// That there is no such label, at the first place in a line where the word is; at the line's end
+/// where it is nowhere.
 fn no_label<'a>(line: &'a [u8], text: MeantLines<'a>, word: &'a [u8]) -> Trouble<'a>
     ensures placed { IsPlaced line.now result }
     ensures kind { kind_of_what result.what ≡ OfLabel }
@@ -79,8 +79,8 @@ fn no_label<'a>(line: &'a [u8], text: MeantLines<'a>, word: &'a [u8]) -> Trouble
     }
 }
 
-/// What is told of any line that is none of the grammar's: the byte in that column, where that stands in
-/// no line of the first two versions, or else the first word.
+/// What is reported of any line that the grammar does not have: the byte in that column, where no
+/// line of the first two versions has it, or else the first word.
 fn of_bytes(line: &[u8], column: usize) -> Trouble<'_>
     requires { IsColumn line.now column }
     ensures placed { IsPlaced line.now result }
@@ -116,8 +116,8 @@ fn odd_byte(byte: u8) -> Option<u8>
     (is_odd(byte) && byte != b'\t').then_some(byte)
 }
 
-/// What is told of any line: that it may not stand where it does, of its first word; or what stands
-/// there where it has none.
+/// What is reported of any line: at its first word, that it may not be where it is; or what is
+/// there where it has no word.
 fn of_first_word(line: &[u8]) -> Trouble<'_>
     ensures placed { IsPlaced line.now result }
     ensures kind { kind_of_what result.what ≡ OfGrammar }
@@ -131,8 +131,8 @@ fn of_first_word(line: &[u8]) -> Trouble<'_>
     }
 }
 
-/// What is told of any line that begins with that byte: what the byte is, or that the line may not
-/// stand where it does, where that can be a word's.
+/// What is reported of any line that begins with that byte: what the byte is, or, where it can be a
+/// word's, that the line may not be where it is.
 fn of_first_byte(line: &[u8], byte: u8) -> Trouble<'_>
     requires { IsByteAt line.now 1 byte }
     ensures placed { IsPlaced line.now result }
@@ -149,7 +149,7 @@ fn of_first_byte(line: &[u8], byte: u8) -> Trouble<'_>
     }
 }
 
-/// That a line may not stand where it does, told of the word in that column.
+/// That a line may not be where it is, at the word in that column.
 fn none_here(line: &[u8], column: usize) -> Trouble<'_>
     requires { IsColumn line.now column }
     ensures placed { IsPlaced line.now result }
@@ -161,7 +161,7 @@ fn none_here(line: &[u8], column: usize) -> Trouble<'_>
     }
 }
 
-/// The word in that column of a line: what is there up to the end of a word.
+/// The word in that column of a line: what is there up to the end of the word.
 fn word_from(line: &[u8], column: usize) -> &[u8]
     requires { IsColumn line.now column }
     ensures { IsWordAt line.now column result.now }
@@ -176,7 +176,7 @@ fn word_from(line: &[u8], column: usize) -> &[u8]
     left
 }
 
-/// Whether what is told of a line is so, where it is about no word.
+/// Whether what is reported of a line is true, where it is about no word.
 fn is_in_line(line: &[u8], trouble: &Trouble<'_>) -> bool
     requires { IsColumn line.now trouble.now.column }
     ensures { IsTrue result → IsPlacedInLine line.now trouble.now.column trouble.now.what }
@@ -211,7 +211,7 @@ fn is_true_of(line: &[u8], column: usize, trouble: LineTrouble) -> bool
     }
 }
 
-/// Whether the word is in that column which always is where that is told.
+/// Whether that column has the word that such a trouble always has there.
 fn is_named_at(line: &[u8], column: usize, trouble: LineTrouble) -> bool
     requires { IsColumn line.now column }
     ensures { IsTrue result → IfSome (spec.word_for trouble) (λ word.
@@ -245,7 +245,7 @@ fn is_comment_at(line: &[u8], column: usize) -> bool
     is_at(line, column, b"//") || is_at(line, column, b"/*") || is_at(line, column, b";")
 }
 
-/// Whether a space is in that column of a line that parts no two words.
+/// Whether a space in that column of a line separates no two words.
 fn is_odd_space(line: &[u8], column: usize) -> bool
     requires { IsColumn line.now column }
     ensures { IsTrue result → IsOddSpace line.now column }
@@ -259,7 +259,7 @@ fn is_odd_space(line: &[u8], column: usize) -> bool
     }
 }
 
-/// Whether no word is in that column of a line, or behind it.
+/// Whether no word is in that column of a line, or after it.
 fn is_after_words(line: &[u8], column: usize) -> bool
     requires { IsColumn line.now column }
     ensures { IsTrue result → IsAfterWords line.now column }
@@ -280,7 +280,7 @@ pub fn before_return(line: &[u8]) -> &[u8]
     }
 }
 
-/// What stands before that end of a line. Nothing where the line does not end so.
+/// What is before that end of a line. Nothing where the line does not end so.
 fn before_end<'a>(end: &[u8], line: &'a [u8]) -> Option<&'a [u8]>
     ensures { MatchOption result ((front : List ℕ) → line.now ≢ front ++ end.now) (λ front.
         line.now ≡ front.now ++ end.now) }
@@ -320,14 +320,14 @@ fn is_digit_at(line: &[u8], column: usize) -> bool
     }
 }
 
-/// Whether a byte stands in no line of the first two versions.
+/// Whether no line of the first two versions has that byte.
 fn is_odd(byte: u8) -> bool
     ensures { result ≡ is_odd byte }
 {
     !(byte == b' ' || byte.is_ascii_graphic())
 }
 
-/// Whether the word of which is told is in the column.
+/// Whether the word that the trouble names is in its column.
 fn is_word_there(line: &[u8], trouble: &Trouble<'_>) -> bool
     requires { IsColumn line.now trouble.now.column }
     ensures { IsTrue result → IfSome (word_of trouble.now.what) (λ word.

@@ -1,4 +1,4 @@
-//! What is to stand in a line, by the kind of its text and the lines before it.
+//! What a line must be, by the kind of its text and the lines before it.
 ghost use Rattle.std.specs.Prelude.{◌≡◌, ◌≢◌, ◌+◌, ◌↔◌, ℕ, List, IfNone, IfSome, IsTrue, is_some};
 ghost use Rattle.tx_check.specs.Kinds.{head_of};
 ghost use Rattle.tx_check.specs.Numbered as spec;
@@ -28,7 +28,7 @@ pub struct TextLine<'a> {
     pub is_ended: bool,
 }
 
-/// What a line is to be.
+/// What a line must be.
 #[derive(Clone, Copy)]
 pub enum Part {
     /// The first line of such a text.
@@ -49,9 +49,9 @@ pub struct Place {
     pub part: Part,
     /// The version of the text: the second where the first line does not say it.
     pub version: Version,
-    /// How many lines of its part stand before it, but labels.
+    /// How many lines of its part are before it, without labels.
     pub count: usize,
-    /// How many labels stand before it.
+    /// How many labels are before it.
     pub labels: usize,
 }
 
@@ -86,7 +86,7 @@ impl Place {
         }
     }
 
-    /// The place of the line behind a header of that kind and version.
+    /// The place of the line after a header of that kind and version.
     pub fn after_header(kind: TextKind, version: Version) -> Place
         ensures version { result.version ≡ version }
         ensures link { result.part ≡ parts.Link → ⊥ }
@@ -156,7 +156,7 @@ impl Place {
         self.after_one()
     }
 
-    /// The place after one line more of the same part.
+    /// The place after one more line of the same part.
     fn after_one(self) -> Place
         ensures part { result.part ≡ self.part }
         ensures version { result.version ≡ self.version }
@@ -170,8 +170,8 @@ impl Place {
         }
     }
 
-    /// Whether a line that was one too many stands before it: none does where all lines are right but
-    /// for their labels.
+    /// Whether a line that was one too many is before it: none is where all lines are right but for
+    /// their labels.
     pub fn is_past_all(&self) -> bool
         ensures past { IsTrue result → (context : Context) → IsPlaceOf context self.now →
             IsPastAll context }
@@ -184,7 +184,7 @@ impl Place {
         }
     }
 
-    /// What is told of a line that is one too many, whatever it says.
+    /// The trouble with a line that is one too many, whatever it says.
     pub fn one_too_many(&self, line: &[u8]) -> Option<LineTrouble>
         ensures over { IfSome result (λ trouble.
             IsTooMany self.now.part self.now.count self.now.labels line.now) }

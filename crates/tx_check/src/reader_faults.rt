@@ -1,4 +1,4 @@
-//! The faults at which the readers of texts find one.
+//! The faults that the readers find in texts.
 ghost use Rattle.std.specs.Prelude.{◌≡◌, ◌≢◌, Some, IfOk};
 ghost use Rattle.tx_check.specs.Reads.{Finds};
 ghost use Rattle.tx_lines.specs.declared.faults.Fault.TheVariants as faults;

@@ -5,7 +5,7 @@ ghost use Rattle.tx_check.specs.Readers as spec;
 use crate::kinds::Kind;
 use crate::trouble::LineTrouble;
 
-/// The command by which a text is to be read.
+/// The command that must read a text.
 #[derive(Clone, Copy)]
 pub enum Reader {
     /// That of the kind which the text is meant to be.
@@ -36,8 +36,8 @@ impl Reader {
     }
 }
 
-/// What is wrong with a text that is to be of one kind, and is meant to be of the other: at the word in
-/// that place of its line.
+/// What is wrong with a text that must be of one kind, and is meant to be of the other: at the word
+/// in that place of its line.
 pub(crate) fn kind_trouble(kind: Kind, meant: Kind) -> (LineTrouble, usize) {
     match (kind, meant) {
         (_, Kind::Program) => (LineTrouble::ProgramHere, 2),

@@ -8,8 +8,8 @@ use crate::kinds::Kind;
 use std::alloc::Global;
 use tx_translate::{Text, read_text};
 
-/// The kind of a text that the command of its kind reads. Nothing where the text is at fault, and where
-/// a growth of memory was refused by which that is found.
+/// The kind of a text that the command of its kind reads. Nothing where the text is at fault, or
+/// where the reader was refused memory.
 pub fn right_kind(alloc: Global, text: &[u8]) -> Option<Kind>
     ensures own { IfSome result (λ kind. kind ≡ kind_of (meant_of text.now)) }
     ensures read { IfSome result (λ kind. IsRead kind (meant_of text.now)) }

@@ -1,4 +1,4 @@
-//! The words in which a trouble is told. Each sentence stands in one line.
+//! The sentences that say what a trouble is, each in one line.
 ghost use Rattle.std.specs.Prelude.{◌≡◌, ◌<◌, ◌++◌, ◌∷◌, [], true, map, OnOk, IfOk, IfSome, string_bytes};
 ghost use Rattle.tx_check.specs.Speaking as spec;
 ghost use Rattle.tx_check.specs.Speaking.{is_after, is_front, kind_of_what, said_word, shown, word_of, IsOfKind, SaysOfLine, SpeaksAfter, SpeaksOf, SpeaksOfByte};
@@ -14,10 +14,10 @@ use tx_base::NoMemory;
 use tx_lines::{put, put_byte, put_count};
 use tx_translate::{OwnLine, Room};
 
-/// How many bytes of a word are told.
+/// How many bytes of a word are shown.
 const WORD_BYTES: usize = 48;
 
-/// How many characters are told in hex.
+/// How many characters are shown in hex.
 const HEX_CHARACTERS: usize = 64;
 
 /// What is said of a line that begins with a call, before an example.
@@ -27,7 +27,7 @@ const STEP_BEGINS: &str = ": a step begins with the number of its process, as";
 const SIGNALS: &str = ", only 1 HUP, 2 INT, 3 QUIT, 6 ABRT, 9 KILL, 10 USR1, 12 USR2, \
 13 PIPE, 14 ALRM, 15 TERM, 17 CHLD and 32 to 39";
 
-/// The sentence that tells what is wrong.
+/// The sentence that says what is wrong.
 pub fn sentence(alloc: Global, what: &What<'_>) -> Result<String, NoMemory>
     ensures in_line { IfOk result (λ sentence. IsInLine (string_bytes sentence)) }
     ensures line { IfOk result (λ sentence. SaysOfLine what.now (string_bytes sentence)) }
@@ -53,7 +53,7 @@ fn line_sentence(alloc: Global, trouble: LineTrouble) -> Result<String, NoMemory
     Ok(text)
 }
 
-/// The sentence of a byte that stands in no line.
+/// The sentence of a byte that no line has.
 fn byte_sentence(alloc: Global, byte: u8) -> Result<String, NoMemory>
     ensures in_line { IfOk result (λ sentence. IsInLine (string_bytes sentence)) }
     ensures says { IfOk result (λ sentence. SpeaksOfByte byte (string_bytes sentence)) }
@@ -65,7 +65,7 @@ fn byte_sentence(alloc: Global, byte: u8) -> Result<String, NoMemory>
     Ok(text)
 }
 
-/// What is said of a byte behind its number.
+/// What is said of a byte after its number.
 fn byte_tail(byte: u8) -> &'static str
     ensures in_line { IsInLine result.now }
     ensures after { is_after result.now ≡ true }
@@ -95,7 +95,7 @@ fn word_sentence(alloc: Global, what: &What<'_>) -> Result<String, NoMemory>
     joined(alloc, what.front(), word, tail.as_bytes())
 }
 
-/// A word behind that front, and what is said of it, with `?` for each byte that is no character of
+/// That front, a word, and what is said of it, with `?` for each byte that is no character of
 /// ASCII.
 fn joined(alloc: Global, front: &str, word: &[u8], tail: &[u8]) -> Result<String, NoMemory>
     requires front { is_front front.now ≡ true }
@@ -113,7 +113,7 @@ fn joined(alloc: Global, front: &str, word: &[u8], tail: &[u8]) -> Result<String
     Ok(text)
 }
 
-/// What parts a word from what is said of it.
+/// What separates a word from what is said of it.
 fn mark_before(tail: &[u8]) -> &'static str
     ensures in_line { IsInLine result.now }
     ensures after { is_after (result.now ++ map shown tail.now) ≡ true }
@@ -124,7 +124,7 @@ fn mark_before(tail: &[u8]) -> &'static str
     }
 }
 
-/// Says what is wrong with a word, behind it, but for a name that is none.
+/// Says after a word what is wrong with it. A name that is none has a function of its own.
 fn say_trouble(text: &mut String, word: &[u8], trouble: WordTrouble<'_>) -> Result<(), AllocError> {
     match trouble {
         WordTrouble::Takes(form, got) => say_takes(text, form, got),
@@ -154,7 +154,7 @@ fn say_trouble(text: &mut String, word: &[u8], trouble: WordTrouble<'_>) -> Resu
     }
 }
 
-/// Says behind a name that is none of those that there are why it is left out, or which of them is
+/// Says after a name that is none of those that there are why it is left out, or which of them is
 /// near.
 fn say_near_name(
     alloc: Global,
@@ -189,7 +189,7 @@ fn say_near_label(text: &mut String, line: OwnLine<'_>) -> Result<(), AllocError
     Ok(())
 }
 
-/// Says that no process stands before a call of that form.
+/// Says that no process is before a call of that form.
 fn say_call_alone(text: &mut String, form: Form) -> Result<(), AllocError> {
     let Form {
         name,
@@ -211,7 +211,7 @@ fn say_takes(text: &mut String, form: Form, got: usize) -> Result<(), AllocError
     write!(text, " takes {no}{words}{colon}{meaning}; got {got} {noun}")
 }
 
-/// What parts some words from those before them. Nothing where there are none.
+/// What separates some words from those before them. Nothing where there are none.
 fn before(words: &str, mark: &'static str) -> &'static str {
     if words.is_empty() { "" } else { mark }
 }
@@ -222,7 +222,7 @@ fn characters_of(word: &[u8]) -> &[u8] {
     behind.strip_suffix(b"\"".as_slice()).unwrap_or(behind)
 }
 
-/// Says that characters are told by their bytes in hex.
+/// Says that characters are spelled by their bytes in hex.
 fn say_in_hex(text: &mut String, characters: &[u8]) -> Result<(), AllocError> {
     put(text, ": bytes are hex before version 3")?;
     if characters.is_empty() || characters.len() > HEX_CHARACTERS {
@@ -249,7 +249,7 @@ fn put_word(text: &mut String, word: &[u8]) -> Result<(), AllocError>
 
 /// Appends bytes, with `?` for each that is no character of ASCII.
 ///
-/// The only error is that a growth of memory was refused: the text may then have some of them behind
+/// The only error is that a growth of memory was refused: the text may then have some of them after
 /// what it had.
 pub fn put_shown(text: &mut String, bytes: &[u8]) -> Result<(), AllocError>
     ensures { OnOk result (string_bytes text.new ≡ string_bytes text.old ++ map shown bytes.now) }

@@ -1,4 +1,4 @@
-//! Tells of a line of a session what is wrong with it.
+//! Says what is wrong with a line of a session.
 ghost use Rattle.std.specs.Prelude.{◌≡◌, ◌≤◌, ◌++◌, IfOk, IfSome, OnOk, codes, length, string_bytes};
 ghost use Rattle.std.specs.Fmt.{decimal};
 ghost use Rattle.tx_check.specs.Sessions.{IsSessionDiagnostic};
@@ -25,14 +25,14 @@ use tx_base::NoMemory;
 use tx_lines::{LINE_BYTES, Version};
 use tx_translate::{Room, plain_line};
 
-/// What is wrong with a line of a session that is neither a step nor asks for anything: `column C: `
-/// and a sentence, without a line's end. At that column is the word of which the sentence speaks.
-/// Columns count bytes from 1; the column after the last byte stands for the line's end.
+/// What is wrong with a line of a session that is neither a step nor a command: `column C: ` and a
+/// sentence, without a line's end. At that column is the word of which the sentence speaks. Columns
+/// count bytes from 1; the column after the last byte is the line's end.
 ///
-/// `is_third` says that the line is of version 3, and `version` else of which it is. Any line is
-/// answered, also one that is a step or asks for something.
+/// `is_third` says that the line is of version 3; else it is of `version`. Any line is answered,
+/// also one that is a step or a command.
 ///
-/// Memory is taken for what is told alone. The only error is that such a growth was refused.
+/// Memory is taken only for the answer. The only error is that such a growth was refused.
 pub fn session_line(
     alloc: Global,
     is_third: bool,
@@ -50,7 +50,7 @@ pub fn session_line(
     Ok(report)
 }
 
-/// Appends that sentence behind that column.
+/// Appends that column and that sentence.
 fn put_column(report: &mut String, column: u64, sentence: &str) -> Result<(), AllocError>
     ensures { OnOk result (string_bytes report.new ≡ string_bytes report.old
         ++ (codes "column " ++ (decimal column ++ (codes ": " ++ sentence.now)))) }
@@ -85,7 +85,7 @@ fn session_trouble<'a>(
     }
 }
 
-/// What a line is to be, which is a step alone, or else may ask for something too.
+/// What a line must be: only a step, or else a step or a command.
 fn part_of(line: &[u8], is_step: bool) -> Part {
     if is_step || word_at(line, 0).is_some_and(begins_step) {
         Part::Step
@@ -124,7 +124,7 @@ fn after_word(is_third: bool, line: &[u8]) -> Option<(&[u8], &[u8])>
     Some((word, &line[word.len() + 1..]))
 }
 
-/// The step about which a line asks by `try` or `why`. Nothing where no word follows that.
+/// The step about which a line asks by `try` or `why`. Nothing where no word follows.
 fn asked_step(is_third: bool, line: &[u8]) -> Option<&[u8]>
     ensures { IfSome result (λ step. length step.now ≤ length line.now) }
 {
@@ -146,7 +146,7 @@ fn begins_step(first: Word<'_>) -> bool {
     }
 }
 
-/// What is wrong with what a line means, which is to be a step alone, or else may ask for something too.
+/// What is wrong with what a line means, which must be only a step, or else a step or a command.
 fn line_trouble<'a>(version: Version, line: &'a [u8], is_step: bool) -> Trouble<'a> {
     let trouble = shape_trouble(line).or_else(|| match word_at(line, 0) {
         Some(first) if begins_step(first) => step_trouble(version, line),

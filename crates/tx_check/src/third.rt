@@ -1,4 +1,4 @@
-//! What is wrong with a line of version 2, as it is told of the line of version 3 that means it.
+//! What is wrong with a line of version 2, said of the line of version 3 that means it.
 mod names;
 mod sets;
 mod strings;
@@ -12,7 +12,7 @@ use crate::trouble::{Trouble, What, WordTrouble};
 use crate::words::word_at;
 use tx_translate::{Role, role_of};
 
-/// What is wrong with a line, told at a column of its own line: in the line that is meant it was found
+/// What is wrong with a line, at a column of its own line: in the line that is meant it was found
 /// at the word of that place.
 pub fn third_trouble<'a>(
     part: Part,
@@ -39,7 +39,7 @@ pub fn third_trouble<'a>(
     }
 }
 
-/// What the word at that place of a line is to be.
+/// What the word at that place of a line must be.
 fn role_at(part: Part, line: &[u8], place: usize) -> Role {
     let name_place = match part {
         Part::Step => 1,
@@ -52,7 +52,7 @@ fn role_at(part: Part, line: &[u8], place: usize) -> Role {
     }
 }
 
-/// What is wrong with a word that is to be a signal.
+/// What is wrong with a word that must be a signal.
 fn signal_trouble<'a>(wrong: WordTrouble<'a>) -> WordTrouble<'a> {
     match wrong {
         WordTrouble::SignalName | WordTrouble::NoNumber => WordTrouble::NoSignal,
@@ -60,8 +60,8 @@ fn signal_trouble<'a>(wrong: WordTrouble<'a>) -> WordTrouble<'a> {
     }
 }
 
-/// What is wrong with a word that is to be neither a signal nor a set. Digits may be of either case, and
-/// behind `0x`.
+/// What is wrong with a word that must be neither a signal nor a set. Digits may be of either case,
+/// and after `0x`.
 fn other_trouble<'a>(word: &[u8], wrong: WordTrouble<'a>) -> WordTrouble<'a> {
     match wrong {
         WordTrouble::SignalName => WordTrouble::NoNumber,

@@ -10,8 +10,8 @@ use crate::habits::left_out;
 use crate::words::Word;
 use tx_translate::MeantLines;
 
-/// What is wrong with a line. Columns count bytes from 1; the column after the last byte stands for
-/// the end of the line.
+/// What is wrong with a line. Columns count bytes from 1; the column after the last byte is the end
+/// of the line.
 #[derive(Clone, Copy)]
 pub struct Trouble<'a> {
     pub column: usize,
@@ -23,7 +23,7 @@ pub struct Trouble<'a> {
 pub enum What<'a> {
     /// The line as a whole.
     Line(LineTrouble),
-    /// A byte that stands in no line.
+    /// A byte that no line has.
     OddByte(u8),
     /// A word.
     Word(&'a [u8], WordTrouble<'a>),
@@ -89,25 +89,25 @@ pub enum LineTrouble {
 pub enum WordTrouble<'a> {
     /// A name that is none of these.
     NoSuch(Names<'a>),
-    /// A name with too few or too many words behind it: what it takes, and how many there are.
+    /// A name with too few or too many words after it: what it takes, and how many there are.
     Takes(Form, usize),
-    /// The first word of this line, which is a call, and no process stands before it.
+    /// The first word of this line, which is a call, and no process is before it.
     LineAlone(&'a [u8]),
     /// The same of a line that only begins as that call does.
     CallAlone(Form),
     /// A number, or what could be one, that is out of this range.
     OutOfRange(&'static str),
-    /// None of these words, which are parted by `|`.
+    /// None of these words, which are separated by `|`.
     NoneOf(&'static [u8]),
-    /// Characters where their bytes are wanted in hex.
+    /// Characters where their bytes are expected in hex.
     InHex,
     /// No signal's name or number.
     NoSignal,
     /// A set with this member, which is none.
     NoSignalIn(&'a [u8]),
-    /// A label whose name stands in that earlier line.
+    /// A label whose name is in that earlier line.
     SecondLabel(u64),
-    /// The rest says only what is wanted.
+    /// The rest says only what is expected.
     NoVersion,
     NoTextKind,
     NoNumber,
@@ -129,7 +129,7 @@ pub enum WordTrouble<'a> {
     SignalFirst,
     SingleQuotes,
     NoneHere,
-    /// These are of version 3 alone.
+    /// These are only of version 3.
     NoProcessName,
     OpenString,
     NoEscape,
@@ -162,7 +162,7 @@ impl<'a> What<'a> {
         }
     }
 
-    /// The label that is nowhere, and the lines among which it was sought.
+    /// The label that is nowhere, and the lines that were searched for it.
     pub fn label(&self) -> Option<(MeantLines<'a>, &'a [u8])>
         ensures label { IfSome result (λ label. kind_of_what self.now ≡ OfLabel) }
         ensures none { IfNone result (kind_of_what self.now ≢ OfLabel) }
@@ -261,7 +261,7 @@ impl LineTrouble {
         }
     }
 
-    /// The sentence that tells it.
+    /// The sentence that says it.
     pub fn sentence(self) -> &'static str
         ensures is { result.now ≡ spec.line_sentence self }
         ensures in_line { IsInLine result.now }
@@ -290,7 +290,7 @@ impl LineTrouble {
         }
     }
 
-    /// The sentence that tells it, where it is about what stands in another place or text.
+    /// The sentence that says it, where it is about what belongs in another place or text.
     fn misplaced(self) -> &'static str
         ensures is { result.now ≡ spec.misplaced_sentence self }
         ensures in_line { IsInLine result.now }
@@ -313,7 +313,7 @@ impl LineTrouble {
         }
     }
 
-    /// The sentence that tells it, where it is about a session.
+    /// The sentence that says it, where it is about a session.
     fn of_session(self) -> &'static str
         ensures is { result.now ≡ spec.session_sentence self }
         ensures in_line { IsInLine result.now }
@@ -331,7 +331,7 @@ impl LineTrouble {
         }
     }
 
-    /// The sentence that tells it, where it is about the command that is to read the text.
+    /// The sentence that says it, where it is about the command that must read the text.
     fn of_reader(self) -> &'static str
         ensures is { result.now ≡ spec.reader_sentence self }
         ensures in_line { IsInLine result.now }
@@ -347,7 +347,7 @@ impl LineTrouble {
 }
 
 impl WordTrouble<'_> {
-    /// What is said behind the word, where that is what is wanted. Nothing else.
+    /// What is said after the word, where that is what is expected. Nothing else.
     pub fn sentence(self) -> &'static str {
         match self {
             WordTrouble::NoVersion => "the version is 1, 2 or 3",

@@ -1,4 +1,4 @@
-//! Cuts a line into words. Nothing else here knows what parts them.
+//! Cuts a line into words. Nothing else here knows what separates them.
 ghost use Rattle.std.specs.Prelude.{◌<◌, ◌≤◌, length};
 
 use crate::kinds::front_word;
@@ -31,8 +31,8 @@ pub fn count_words(line: &[u8]) -> usize
     line.iter().filter(|byte| **byte == b' ').count() + 1
 }
 
-/// The column of the first space that parts no two words: one before the first word, behind another
-/// space, or after the last word.
+/// The column of the first space that separates no two words: one before the first word, after
+/// another space, or after the last word.
 pub fn odd_space(line: &[u8]) -> Option<usize> {
     for at in 0..line.len() {
         if line[at] == b' ' && !parts_words(line, at) {
@@ -42,7 +42,7 @@ pub fn odd_space(line: &[u8]) -> Option<usize> {
     None
 }
 
-/// Whether a space at that place stands between two words, and no space follows it.
+/// Whether a space at that place is between two words, and no space follows it.
 fn parts_words(line: &[u8], at: usize) -> bool
     requires { at < length line.now }
 {

@@ -25,6 +25,6 @@ abbrev pub spells_at_once : List ℕ → Reply → Bool
 spells_at_once [] reply = false
 spells_at_once (byte ∷ text) reply = if nat_eq byte 32 then spells text reply else false
 
--- whether a reply is the expected one: by what follows one space, or by what is told
+-- whether a reply is the expected one: by what follows one space, or by the text of the comment
 abbrev pub agrees : List ℕ → Reply → Bool
 agrees expected reply = spells_at_once expected reply || spells (comment_text expected) reply

@@ -1,4 +1,4 @@
--- The comment of a line, and what it says that the line's step is to be answered.
+-- The comment of a line, and which reply it expects of the line's step.
 use Rattle.std.specs.Prelude.{ℕ, ◌-◌, Bool, false, true, not, ◌||◌, List, [], ◌∷◌, drop, is_some, length, take, nat_eq, codes, option_and_then, Option, Some, None, if◌then◌else◌}
 use Rattle.std.specs.Char.{is_ascii_whitespace}
 use Rattle.std.specs.List.{prefix_len, suffix_len}
@@ -42,7 +42,7 @@ comment_from reading (byte ∷ bytes) =
 abbrev pub comment_in : List ℕ → Option (List ℕ)
 comment_in line = comment_from Between line
 
--- what follows the `=` with which a comment begins, maybe after blanks
+-- what follows the `=` with which a comment begins, which may be after blanks
 abbrev pub after_equals : List ℕ → Option (List ℕ)
 after_equals [] = None
 after_equals (byte ∷ bytes) = if nat_eq byte 61 then Some bytes else if is_blank byte then after_equals bytes else None
@@ -63,11 +63,11 @@ comment_text comment = trimmed (before_mark comment)
 abbrev pub expected_in : List ℕ → Option (List ℕ)
 expected_in line = option_and_then after_equals (comment_in line)
 
--- whether that is a text: right after one space, or by what it tells
+-- whether that is a text: right after one space, or by the text of the comment
 abbrev pub says : List ℕ → List ℕ → Bool
 says expected text = bytes_eq expected (32 ∷ text) || bytes_eq (comment_text expected) text
 
--- whether a comment tells `state`
+-- whether a comment says `state`
 abbrev pub is_state : Option (List ℕ) → Bool
 is_state None = false
 is_state (Some comment) = says comment (codes "state")

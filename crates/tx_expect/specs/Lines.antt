@@ -98,7 +98,7 @@ after_step number line (step ∷ steps) [] p = judged_stray p (stray number line
 after_step number line (step ∷ steps) (reply ∷ replies) p =
     judged (record p { steps = steps; replies = replies }) (step_verdict (expected_in line) reply) (step_report number step (expected_in line) reply)
 
--- after the line of the header, or of the next step behind it
+-- after the line of the header, or of the next step after it
 abbrev pub after_header_or_step : ℕ → List ℕ → Progress → Progress
 after_header_or_step number line p = if p.headed then after_step number line p.steps p.replies p else judged_stray (record p { headed = true }) (stray number line)
 

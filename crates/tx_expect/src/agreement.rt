@@ -21,7 +21,7 @@ pub fn agrees(spelled: &mut String, expected: &[u8], reply: &Reply) -> Result<bo
     spells(spelled, comment_text(expected), reply)
 }
 
-/// Whether what follows one space spells a reply. Most expectations do, and nothing else is looked at.
+/// Whether what follows one space spells a reply. Most expectations do, and need no other check.
 fn spells_at_once(spelled: &mut String, expected: &[u8], reply: &Reply) -> Result<bool, AllocError>
     ensures { IfOk result (λ spells. spells ≡ spec.spells_at_once expected.now reply.now) }
 {

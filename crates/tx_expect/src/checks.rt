@@ -1,4 +1,4 @@
-//! Tells what is wrong with the expectations and the names of a text.
+//! Reports what is wrong with the expectations and the names of a text.
 ghost use Rattle.std.specs.Prelude.{IfOk, string_bytes};
 ghost use Rattle.tx_check.specs.Command.{Checks};
 ghost use Rattle.tx_expect.specs.Checks.{SaysToo};
@@ -18,12 +18,12 @@ use tx_translate::{MeantLines, naming_in, split_line};
 const REPLIES: &str = "; a reply is as in a report: ok 0, ok -9, ok EBADF, ended, committed, \
 committed 4:10:3, aborted 201, out 6869, out -, no N8 2 or no N9\n";
 
-/// Reads a text to its end, and writes what is told of it by the command of its kind, as tx_check has it. Where
-/// that is nothing, and the text is a schedule, what is wrong with its expectations and its names is told.
-/// Answers whether nothing is.
+/// Reads a text to its end, and writes the report of tx_check for the command of its kind. Where
+/// that is empty, and the text is a schedule, writes what is wrong with its expectations and its
+/// names. Answers whether nothing is.
 ///
 /// `TooLong` at line 0 where the text has more than 1,048,576 bytes, and `Reader` and `NoMemory`: nothing
-/// is written then. `Writer`: a front of what is told is.
+/// is written then. `Writer`: a front of the report is.
 pub fn check_too<S: Source, W: Sink>(
     alloc: Global,
     source: &mut S,
@@ -41,7 +41,7 @@ pub fn check_too<S: Source, W: Sink>(
     Ok(bytes.is_empty())
 }
 
-/// What is told of a text, and of its expectations and names where that is nothing.
+/// The report on a text, and on its expectations and names where that is empty.
 fn report_too(alloc: Global, text: &[u8]) -> Result<String, NoMemory>
     ensures { IfOk result (λ report. SaysToo text.now (string_bytes report)) }
 {
@@ -50,7 +50,7 @@ fn report_too(alloc: Global, text: &[u8]) -> Result<String, NoMemory>
         return Ok(report);
     }
     let own = own_troubles(alloc, text)?;
-    // Most texts have none, and of what kind they are is asked of each line.
+    // Most texts have none, and to find their kind takes a look at each line.
     if own.is_empty() || kind_of(MeantLines::of(text)) != Kind::Schedule {
         return Ok(report);
     }
@@ -92,7 +92,7 @@ fn own_troubles(alloc: Global, text: &[u8]) -> Result<String, AllocError> {
     Ok(report)
 }
 
-/// What is seen of a text before its lines are gone over.
+/// What is known of a text before its lines are checked.
 #[derive(Clone, Copy)]
 struct Outline {
     /// The number of the last line that is the header or a step, from 1. 0 where none is.
@@ -102,7 +102,7 @@ struct Outline {
 }
 
 impl Outline {
-    /// That of a text.
+    /// The outline of a text.
     fn of(text: &[u8]) -> Outline {
         let mut outline = Outline {
             last: 0,
@@ -178,7 +178,7 @@ fn trouble_at(place: Place, line: &[u8]) -> Option<Trouble<'_>> {
     }
 }
 
-/// Appends a line that tells what is wrong with the expectation of the line of that number.
+/// Appends the diagnostic of the expectation in the line of that number.
 fn put_trouble(
     report: &mut String,
     number: u64,
@@ -198,7 +198,7 @@ fn put_trouble(
     }
 }
 
-/// Appends a line that tells that the process at a column of the line of that number has a name.
+/// Appends the diagnostic that the process at a column of the line of that number has a name.
 fn put_second_name(report: &mut String, number: u64, column: usize) -> Result<(), AllocError> {
     write!(
         report,

@@ -1,4 +1,4 @@
-//! The comment of a line, and what it says that the line's step is to be answered.
+//! The comment of a line, and which reply it expects of the line's step.
 ghost use Rattle.std.specs.Prelude.{◌≡◌, ◌≤◌, length, option_map};
 ghost use Rattle.tx_expect.specs.Comments.{after_equals, before_mark, begins_state, comment_from, comment_in, comment_text, expected_in, is_header_or_step, says};
 ghost use Rattle.tx_translate.specs.Words as words;
@@ -26,7 +26,7 @@ pub fn expected_in(line: &[u8]) -> Option<&[u8]>
     after_equals(comment_in(line)?)
 }
 
-/// Whether what a line expects is a text: right after one space, or by what it tells.
+/// Whether what a line expects is a text: right after one space, or by the text of the comment.
 pub fn says(expected: &[u8], text: &[u8]) -> bool
     ensures { result ≡ says expected.now text.now }
 {
@@ -36,7 +36,7 @@ pub fn says(expected: &[u8], text: &[u8]) -> bool
     }
 }
 
-/// Whether the comment of a line tells `state`: the lines of a state are expected after it.
+/// Whether the comment of a line says `state`: the lines of a state are expected after it.
 pub fn begins_state(line: &[u8]) -> bool
     ensures { result ≡ begins_state line.now }
 {
@@ -101,7 +101,7 @@ fn comment_after_strings(line: &[u8]) -> Option<&[u8]>
     None
 }
 
-/// What follows a string, of which that is left of a line.
+/// What follows a string in a line, of which that is left.
 fn after_string(line: &[u8]) -> &[u8]
     ensures same { comment_from InString line.now ≡ comment_from InWord result.now }
     ensures shorter { length result.now ≤ length line.now }
@@ -118,8 +118,8 @@ fn after_string(line: &[u8]) -> &[u8]
     left
 }
 
-/// What follows the `=` with which a comment begins, maybe after blanks. Nothing where it begins
-/// otherwise.
+/// What follows the `=` with which a comment begins, which may be after blanks. Nothing where it
+/// begins otherwise.
 fn after_equals(comment: &[u8]) -> Option<&[u8]>
     ensures { option_map (λ expected. expected.now) result ≡ after_equals comment.now }
 {
@@ -136,7 +136,7 @@ fn after_equals(comment: &[u8]) -> Option<&[u8]>
     None
 }
 
-/// Whether a byte parts words.
+/// Whether a byte separates words.
 fn is_blank(byte: u8) -> bool
     ensures { result ≡ words.is_blank byte }
 {

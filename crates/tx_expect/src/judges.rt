@@ -16,7 +16,7 @@ use std::alloc::{AllocError, Global};
 use tx_base::{Reply, Step};
 use tx_translate::split_line;
 
-/// How far the lines of a text are judged, and what that came to.
+/// How far the lines of a text are judged, and with what outcome so far.
 #[derive(Drop)]
 pub struct Judge<'a> {
     report: String,
@@ -46,8 +46,8 @@ impl<'a> Judge<'a> {
         }
     }
 
-    /// Judges the lines of a text up to the one after which those of the state are expected. Gives the number
-    /// of that line and the text after it, where it is there.
+    /// Judges the lines of a text up to the one after which those of the state are expected.
+    /// Returns the number of that line and the text after it, where it is there.
     ///
     /// The only error is that a growth of memory was refused.
     pub fn judge_steps<'t>(&mut self, text: &'t [u8]) -> Result<Option<(u64, &'t [u8])>, AllocError>

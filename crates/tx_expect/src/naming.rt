@@ -31,8 +31,8 @@ impl Names {
         }
     }
 
-    /// Takes the next line after the header. Where it gives a name to a process that has one, the column of
-    /// its number.
+    /// Takes the next line after the header. Returns the column of the process's number where it
+    /// gives a name to a process that has one.
     ///
     /// The only error is that a growth of memory was refused.
     pub fn second_name(&mut self, line: &[u8]) -> Result<Option<usize>, AllocError> {

@@ -4,16 +4,16 @@ use tx_base::UNDELIVERED;
 use tx_lines::{number, read_byte, read_bytes, read_pid, split_at, split_word};
 use tx_state_text::error_name;
 
-/// Above which number no error is.
+/// The number above which there is no error.
 const ERRORS_ABOVE: i64 = -100;
 
 /// The refusals are numbered from 1 to this.
 const REFUSALS: u8 = 14;
 
-/// The refusal that has the starter in the way after it.
+/// The refusal that is followed by the starter in the way.
 const BUSY: u8 = 8;
 
-/// Whether some reply may be spelled so. Of numbers it is only asked whether they fit.
+/// Whether some reply may be spelled so. Of numbers it only checks whether they fit.
 pub fn is_reply(reply: &[u8]) -> bool {
     match split_word(reply) {
         None => reply == b"ended".as_slice() || reply == b"committed".as_slice(),
@@ -67,7 +67,7 @@ fn is_refusal(rest: &[u8]) -> bool {
     }
 }
 
-/// The number of a refusal, behind its letter.
+/// The number of a refusal, after its letter.
 fn refusal_number(word: &[u8]) -> Option<u8> {
     read_byte(word.strip_prefix(b"N".as_slice())?)
 }

@@ -49,7 +49,7 @@ pub fn put_state_difference(
     put_rest(report, at, to_come)
 }
 
-/// Reports the first line that a state has more than are expected.
+/// Reports the first line of a state that is not expected.
 fn put_rest(report: &mut String, at: u64, to_come: &[u8]) -> Result<Verdict, AllocError>
     ensures verdict { IfOk result (λ verdict. verdict
         ≡ state_verdict (after_last at (own_lines to_come.now))) }

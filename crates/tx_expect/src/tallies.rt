@@ -1,9 +1,9 @@
-//! Counts expectations by what becomes of them.
+//! Counts expectations by whether they are met.
 ghost use Rattle.std.specs.Prelude.{◌≡◌, ◌<◌, ◌-◌, ◌^◌};
 ghost use Rattle.tx_expect.specs.Lines.{tally_with, total};
 ghost use Rattle.tx_expect.specs.Outcomes as spec;
 
-/// What becomes of what is expected of a step, or of the state.
+/// Whether the reply to a step, or the state, is as expected.
 #[derive(Clone, Copy)]
 pub enum Verdict {
     /// It is as expected.
@@ -34,7 +34,7 @@ impl Tally {
         }
     }
 
-    /// With one verdict more.
+    /// With one more verdict.
     pub fn with(self, verdict: Verdict) -> Tally
         requires { total self < 2 ^ 64 - 1 }
         ensures { result ≡ tally_with self verdict }

@@ -17,7 +17,7 @@ pub fn call_alone<'a>(first: Word<'a>, version: Version, line: &'a [u8]) -> Opti
     Some(Trouble::of_word(first, trouble))
 }
 
-/// Whether a line is a whole call. The words behind a `kill` may be the signal and the process, as a
+/// Whether a line is a whole call. The words after a `kill` may be the signal and the process, as a
 /// shell has them.
 fn is_whole(form: Form, version: Version, line: &[u8]) -> bool {
     !sends_signal(form) && call_trouble(TextKind::Schedule, version, line, 0).is_none()

@@ -1,4 +1,4 @@
-//! What is wrong with a word that is to be bytes in hex digits.
+//! What is wrong with a word that must be bytes in hex digits.
 use crate::trouble::{Trouble, WordTrouble};
 use crate::words::Word;
 use arrayvec::ArrayVec;
@@ -7,7 +7,7 @@ use tx_lines::read_bytes;
 /// How many digits a word may have.
 const DIGITS: usize = 128;
 
-/// What is wrong where bytes are wanted.
+/// What is wrong where bytes are expected.
 pub fn bytes_trouble<'a>(word: Word<'a>) -> Option<Trouble<'a>> {
     if read_bytes(word.bytes, &mut ArrayVec::new()) {
         return None;

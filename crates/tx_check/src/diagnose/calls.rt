@@ -6,7 +6,7 @@ use crate::trouble::{LineTrouble, Names, Trouble, WordTrouble};
 use crate::words::{count_words, word_at};
 use tx_lines::{TextKind, Version};
 
-/// What is wrong with the call whose name stands at that place of a line.
+/// What is wrong with the call whose name is at that place of a line.
 pub fn call_trouble<'a>(
     kind: TextKind,
     version: Version,
@@ -85,8 +85,8 @@ pub fn count_of(words: &str) -> usize {
     count_words(words.as_bytes())
 }
 
-/// The words of a form, where it has several ways: the one that is taken by the call whose name
-/// stands at that place.
+/// The words of a form, where it has several ways: the one that the call takes whose name is at
+/// that place.
 fn words_of(form: Form, line: &[u8], place: usize) -> &'static str {
     let first = word_at(line, place.saturating_add(1));
     let second = word_at(line, place.saturating_add(2));
@@ -102,7 +102,7 @@ fn words_of(form: Form, line: &[u8], place: usize) -> &'static str {
     }
 }
 
-/// What is wrong with the words behind the name at that place, by the words of a form.
+/// What is wrong with the words after the name at that place, by the words of a form.
 fn arguments_trouble<'a>(
     kind: TextKind,
     words: &'static str,

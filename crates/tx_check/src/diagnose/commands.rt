@@ -5,7 +5,7 @@ use crate::trouble::{LineTrouble, Names, Trouble, WordTrouble};
 use crate::words::{Word, word_at};
 use tx_lines::{TextKind, Version, read_pid};
 
-/// What is wrong with the words of a line that is to be a command.
+/// What is wrong with the words of a line that must be a command.
 pub fn command_trouble<'a>(version: Version, line: &'a [u8]) -> Option<Trouble<'a>> {
     let name = word_at(line, 0)?;
     match form_of(COMMANDS.as_slice(), name.bytes) {

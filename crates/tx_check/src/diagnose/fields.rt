@@ -29,7 +29,7 @@ pub fn field_trouble<'a>(kind: TextKind, field: Field, word: Word<'a>) -> Option
     }
 }
 
-/// What is wrong where that name is wanted in a word.
+/// What is wrong where that name is expected in a word.
 fn name_trouble<'a>(name: &[u8], word: Word<'a>) -> Option<Trouble<'a>> {
     read_name(name)
         .is_none()

@@ -1,4 +1,4 @@
-//! The labels in the text of a program: which stand twice, and which nowhere.
+//! The labels in the text of a program: which are there twice, and which nowhere.
 ghost use Rattle.std.specs.Prelude.{◌≡◌, ◌≤◌, IfNone, IfSome, length};
 ghost use Rattle.tx_check.specs.Labels.{AreKnown};
 ghost use Rattle.tx_check.specs.Right.{SpellsLine};
@@ -14,8 +14,8 @@ use crate::words::{Word, count_words, word_at};
 use tx_lines::Version;
 use tx_translate::MeantLines;
 
-/// What is wrong with the line of that number, where it is a label whose name stands in a line
-/// before it.
+/// What is wrong with the line of that number, where it is a label whose name is in a line before
+/// it.
 pub fn second_label<'a>(text: &Labels<'_>, number: u64, line: &'a [u8]) -> Option<Trouble<'a>>
     requires { AreKnown text.now }
     ensures twice { IfSome result (λ trouble. IsTwice (left_of text.now.text) number line.now) }
@@ -36,7 +36,7 @@ pub fn second_label<'a>(text: &Labels<'_>, number: u64, line: &'a [u8]) -> Optio
     })
 }
 
-/// What is wrong with a line of a program of that version, where it names a label which stands nowhere.
+/// What is wrong with a line of a program of that version, where it names a label that is nowhere.
 pub fn link_trouble<'a>(
     lines: MeantLines<'a>,
     text: &Labels<'_>,
@@ -57,7 +57,7 @@ pub fn link_trouble<'a>(
     None
 }
 
-/// The first word of a line that names a label which stands nowhere; all of the line where none does.
+/// The first word of a line that names a label that is nowhere; all of the line where none does.
 fn label_named<'a>(text: &Labels<'_>, line: &'a [u8]) -> Word<'a>
     requires { AreKnown text.now }
 {

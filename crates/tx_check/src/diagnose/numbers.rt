@@ -1,11 +1,11 @@
-//! What is wrong with a word that is to be a number.
+//! What is wrong with a word that must be a number.
 use crate::forms::Field;
 use crate::trouble::{Trouble, WordTrouble};
 use crate::words::Word;
 use tx_lines::{number, read_byte, read_pid, read_position};
 use tx_translate::signal;
 
-/// What is wrong where a number is wanted, by what it stands for.
+/// What is wrong where a number is expected, by what it stands for.
 pub fn number_trouble<'a>(field: Field, word: Word<'a>) -> Option<Trouble<'a>> {
     let (is_one, range) = match field {
         Field::Process => (read_pid(word.bytes).is_some(), "0 to 65535"),

@@ -1,4 +1,4 @@
-//! What is wrong with a line before its words are looked at.
+//! What is wrong with a line before its words are checked.
 use crate::trouble::{LineTrouble, Trouble, What};
 use crate::words::odd_space;
 

@@ -1,11 +1,11 @@
-//! What is wrong with a word that is to be a set of signals.
+//! What is wrong with a word that must be a set of signals.
 use crate::trouble::{Trouble, WordTrouble};
 use crate::words::Word;
 use tx_base::Signo;
 use tx_lines::{read_byte, read_set};
 use tx_signal::is_known;
 
-/// What is wrong where a set of signals is wanted.
+/// What is wrong where a set of signals is expected.
 pub fn signals_trouble<'a>(word: Word<'a>) -> Option<Trouble<'a>> {
     read_set(word.bytes)
         .is_none()

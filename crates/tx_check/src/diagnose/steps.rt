@@ -14,7 +14,7 @@ const KERNEL: Form = Form {
     meaning: "the process that began the transaction to be aborted",
 };
 
-/// What is wrong with the words of a line that is to be a step.
+/// What is wrong with the words of a line that must be a step.
 pub fn step_trouble<'a>(version: Version, line: &'a [u8]) -> Option<Trouble<'a>> {
     let first = word_at(line, 0)?;
     if first.bytes == b"kernel".as_slice() {

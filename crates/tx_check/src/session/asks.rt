@@ -1,4 +1,4 @@
-//! What is wrong with a line of a session that is to ask for something.
+//! What is wrong with a line of a session that must be a command.
 use crate::diagnose::alone::call_alone;
 use crate::diagnose::calls::count_of;
 use crate::forms::{SESSION, form_of};
@@ -27,7 +27,7 @@ pub fn ask_trouble<'a>(version: Version, line: &'a [u8]) -> Option<Trouble<'a>> 
 }
 
 /// How many words a command with those takes, at least and at most: those in brackets may be left
-/// out, and some stand for all the rest of a line.
+/// out, and some are all the rest of a line.
 fn words_taken(words: &str) -> (usize, usize) {
     let count = count_of(words);
     let brackets = words.as_bytes().iter().filter(|byte| **byte == b'[');
@@ -38,7 +38,7 @@ fn words_taken(words: &str) -> (usize, usize) {
     }
 }
 
-/// What is wrong with the words behind the name of a command with those.
+/// What is wrong with the words after the name of a command with those.
 fn words_trouble<'a>(words: &'static str, line: &'a [u8]) -> Option<Trouble<'a>> {
     match words {
         "PIECE" => piece_trouble(line),

@@ -5,7 +5,7 @@ use crate::words::{count_words, word_at};
 use tx_base::{PROCESSES, WIDE_PROCESSES};
 use tx_lines::TextKind;
 
-/// What is wrong with a line that begins with `txos`. A header that can be may come no more.
+/// What is wrong with a line that begins with `txos`. It is too late for a header that is right.
 pub fn head_trouble<'a>(line: &'a [u8]) -> Trouble<'a> {
     words_trouble(line).unwrap_or(Trouble::of_line(1, LineTrouble::HeaderLate))
 }

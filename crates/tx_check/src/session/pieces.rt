@@ -6,7 +6,7 @@ use crate::trouble::{Names, Trouble, WordTrouble};
 use crate::words::{count_words, word_at};
 use tx_lines::TextKind;
 
-/// What is wrong with the piece whose name is the word behind the first of a line.
+/// What is wrong with the piece whose name is the second word of a line.
 pub fn piece_trouble<'a>(line: &'a [u8]) -> Option<Trouble<'a>> {
     let name = word_at(line, 1)?;
     let Some(form) = form_of(PIECES.as_slice(), name.bytes) else {
@@ -19,8 +19,8 @@ pub fn piece_trouble<'a>(line: &'a [u8]) -> Option<Trouble<'a>> {
     numbers_trouble(form.words, line, 2)
 }
 
-/// What is wrong with the numbers that stand for those words from that place of a line on; words that are
-/// parted by `|` stand for themselves.
+/// What is wrong with the numbers that are for those words from that place of a line on; words that
+/// are separated by `|` are for themselves.
 pub fn numbers_trouble<'a>(
     words: &'static str,
     line: &'a [u8],

@@ -1,4 +1,4 @@
-//! What is wrong with a line that is to give a name to a process.
+//! What is wrong with a line that must give a name to a process.
 ghost use Rattle.std.specs.Prelude.{◌≡◌, false, is_some, true, IfNone, IfSome};
 ghost use Rattle.tx_translate.specs.Names.{is_name, process_in};
 
@@ -11,8 +11,8 @@ use crate::trouble::{Trouble, What, WordTrouble};
 use crate::words::Word;
 use tx_translate::{is_name, process_in, split_word};
 
-/// What is wrong with an own line that is to give a name, where that was found which is wrong with such a
-/// line before version 3. Else what was found.
+/// What is wrong with an own line that must give a name, where such a line was found wrong as it is
+/// before version 3. Else what was found.
 pub fn naming_trouble<'a>(part: Part, own: &'a [u8], found: Trouble<'a>) -> Trouble<'a> {
     match (part, found.what) {
         (Part::Step | Part::Command, What::Word(_, WordTrouble::NoNames)) => {
@@ -33,7 +33,7 @@ fn wrong_in<'a>(line: &'a [u8]) -> Option<Trouble<'a>> {
     number_trouble(own_word(line, 1)?).or_else(|| name_trouble(own_word(line, 2)?))
 }
 
-/// What is wrong where the number of a process is wanted.
+/// What is wrong where the number of a process is expected.
 fn number_trouble<'a>(word: Word<'a>) -> Option<Trouble<'a>>
     ensures wrong { IfSome result (λ trouble. is_some (process_in word.entry.bytes.now) ≡ false) }
     ensures right { IfNone result (is_some (process_in word.entry.bytes.now) ≡ true) }
@@ -44,7 +44,7 @@ fn number_trouble<'a>(word: Word<'a>) -> Option<Trouble<'a>>
     Some(no_number(word, "1 to 256"))
 }
 
-/// What is wrong where a name is wanted.
+/// What is wrong where a name is expected.
 fn name_trouble<'a>(word: Word<'a>) -> Option<Trouble<'a>>
     ensures wrong { IfSome result (λ trouble. is_name word.entry.bytes.now ≡ false) }
     ensures right { IfNone result (is_name word.entry.bytes.now ≡ true) }
@@ -55,7 +55,7 @@ fn name_trouble<'a>(word: Word<'a>) -> Option<Trouble<'a>>
     Some(Trouble::of_word(word, WordTrouble::NoProcessName))
 }
 
-/// How many words a line has that a person wrote.
+/// How many words an own line has.
 fn count_own_words(line: &[u8]) -> usize {
     let mut left = line;
     for count in 0..line.len() {

@@ -1,9 +1,9 @@
-//! What is wrong with a word that is to be a set of signals, by names or numbers.
+//! What is wrong with a word that must be a set of signals, by names or numbers.
 use crate::trouble::WordTrouble;
 use tx_translate::signal;
 
 /// What is wrong with a word that is no set: the first of its members that is no signal, or that
-/// one stands in it twice.
+/// one is in it twice.
 pub fn set_trouble(word: &[u8]) -> WordTrouble<'_> {
     let mut members = word.split(|byte| *byte == b',');
     members

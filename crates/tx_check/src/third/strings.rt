@@ -1,4 +1,4 @@
-//! What is wrong with a string that means no bytes, and so stands in the line of version 2 as it is.
+//! What is wrong with a string that means no bytes, and so is in the line of version 2 as it is.
 use crate::own::own_word;
 use crate::trouble::{Trouble, What, WordTrouble};
 use crate::words::{Word, count_words, word_at};
@@ -7,8 +7,8 @@ use tx_lines::LINE_BYTES;
 /// How many bytes a string may have.
 const BYTES: usize = 64;
 
-/// What is wrong with the first string of an own line that stands in the line of version 2 as it is,
-/// where what was found wrong there, at that own column, may come of it.
+/// What is wrong with the first string of an own line that is in the line of version 2 as it is,
+/// where it may be the cause of what was found there, at that own column.
 pub fn string_trouble<'a>(
     line: &[u8],
     own: &'a [u8],
@@ -24,8 +24,8 @@ pub fn string_trouble<'a>(
     may_come_of_it.then(|| Trouble::of_word(string, wrong_in(string.bytes)))
 }
 
-/// The first string of an own line that stands in the line of version 2 as it is. No word before it
-/// has a space, so that the places of both are the same.
+/// The first string of an own line that is in the line of version 2 as it is. No word before it has
+/// a space, so its place in both lines is the same.
 fn string_left<'a>(line: &[u8], own: &'a [u8]) -> Option<Word<'a>> {
     for place in 0..count_words(line) {
         let string = own_word(own, place)?;
@@ -37,7 +37,7 @@ fn string_left<'a>(line: &[u8], own: &'a [u8]) -> Option<Word<'a>> {
     None
 }
 
-/// What is wrong with a string. `NoStore` where it means bytes, and stands in a wrong place.
+/// What is wrong with a string. `NoStore` where it means bytes, and is in a wrong place.
 fn wrong_in(string: &[u8]) -> WordTrouble<'static> {
     let mut is_escaped = false;
     let mut count: usize = 0;
