@@ -20,15 +20,15 @@ use Rattle.tx_translate.specs.Words.{words_in}
 
 -- the sentences about lines: about the command that must read the text, about sessions, about what is in a wrong place, and all of them
 abbrev pub reader_sentence : LineTrouble → List ℕ
-reader_sentence ProgramHere = codes "this is a program, for txos run; a schedule is wanted"
-reader_sentence ScheduleHere = codes "this is a schedule, for txos replay; a program is wanted"
+reader_sentence ProgramHere = codes "this is a program, for txos run; expected a schedule"
+reader_sentence ScheduleHere = codes "this is a schedule, for txos replay; expected a program"
 reader_sentence CommandsHere = codes "commands begin here, which only txos debug and json read"
-reader_sentence NoCommands = codes "a line debug is wanted, and commands after it"
-reader_sentence trouble = codes "this line is none of the grammar's"
+reader_sentence NoCommands = codes "expected a line debug, and commands after it"
+reader_sentence trouble = codes "the grammar has no such line"
 
 abbrev pub session_sentence : LineTrouble → List ℕ
 session_sentence NoSessionHeader = codes "a session begins with txos 3 schedule N, for 1 to 256 processes"
-session_sentence HeaderLate = codes "a header is only the first line of a session"
+session_sentence HeaderLate = codes "only the first line of a session is a header"
 session_sentence ProgramInSession = codes "a session has steps, and no program: schedule"
 session_sentence DebugInSession = codes "a session takes commands without a line debug"
 session_sentence NoStep = codes "this is no step"
@@ -36,11 +36,11 @@ session_sentence NeitherStepNorCommand = codes "neither a step nor a command"
 session_sentence trouble = reader_sentence trouble
 
 abbrev pub misplaced_sentence : LineTrouble → List ℕ
-misplaced_sentence DeferIsLater = codes "sys_xbegin defer is not of version 1: txos 3 in line 1"
-misplaced_sentence MovedIsLater = codes "moved is not of version 1: txos 3 in line 1"
+misplaced_sentence DeferIsLater = codes "sys_xbegin defer is not in version 1: txos 3 in line 1"
+misplaced_sentence MovedIsLater = codes "moved is not in version 1: txos 3 in line 1"
 misplaced_sentence CommandTooSoon = codes "commands come after a line debug"
 misplaced_sentence DebugAgain = codes "commands have begun: debug is above"
-misplaced_sentence LabelInSchedule = codes "labels are of programs: txos 3 program N in line 1"
+misplaced_sentence LabelInSchedule = codes "labels need a program: txos 3 program N in line 1"
 misplaced_sentence StepInProgram = codes "this is a program: its lines name no process"
 misplaced_sentence DebugInProgram = codes "this is a program: txos run --workers N --turns T, and no commands"
 misplaced_sentence StepAmongCommands = codes "commands have begun: steps come before the line debug"
@@ -55,12 +55,12 @@ line_sentence TooManyLabels = codes "there are 256 labels already"
 line_sentence NoEnd = codes "the last line has no end"
 line_sentence CarriageReturn = codes "the line ends with CR, which only version 3 takes: txos 3 in line 1"
 line_sentence ByteOrderMark = codes "the text begins with a byte-order mark, which must go"
-line_sentence Comment = codes "comments are of version 3 alone: txos 3 in line 1, and # before them"
+line_sentence Comment = codes "only version 3 has comments: txos 3 in line 1, and # before them"
 line_sentence OtherComment = codes "comments begin with #, in version 3"
 line_sentence Empty = codes "the line is empty, which only version 3 takes: txos 3 in line 1"
-line_sentence Space = codes "words are parted by one space, with none before or after them, but in version 3"
+line_sentence Space = codes "before version 3 one space separates words, with none before or after them"
 line_sentence NoHeader = codes "a text begins with txos 3 schedule N or txos 3 program N, for N processes"
-line_sentence NoCall = codes "a call is wanted after the process"
+line_sentence NoCall = codes "expected a call after the process"
 line_sentence trouble = misplaced_sentence trouble
 
 -- whether a word of a line ends before these bytes: at the line's end, or before a tab, a line's return, a space, or a comment

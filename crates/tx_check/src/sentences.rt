@@ -71,8 +71,8 @@ fn byte_tail(byte: u8) -> &'static str
     ensures after { is_after result.now ≡ true }
 {
     match byte {
-        b'\t' => ": a tab; one space parts words, but in version 3",
-        _ => ": words are of ASCII, and one space parts them, but in version 3",
+        b'\t' => ": a tab; only version 3 takes tabs between words",
+        _ => ": words are ASCII, with one space between, except in version 3",
     }
 }
 
@@ -133,14 +133,13 @@ fn say_trouble(text: &mut String, word: &[u8], trouble: WordTrouble<'_>) -> Resu
             put_word(text, line)
         }
         WordTrouble::CallAlone(form) => say_call_alone(text, form),
-        WordTrouble::OutOfRange(range) => write!(text, ": a number of {range} is wanted"),
+        WordTrouble::OutOfRange(range) => write!(text, ": expected a number, {range}"),
         WordTrouble::NoneOf(choices) => {
-            put(text, ": ")?;
+            put(text, ": expected ")?;
             if choices.contains(&b'|') {
                 put(text, "one of ")?;
             }
-            put_word(text, choices)?;
-            put(text, " is wanted")
+            put_word(text, choices)
         }
         WordTrouble::InHex => say_in_hex(text, characters_of(word)),
         WordTrouble::NoSignal => put(text, SIGNALS),

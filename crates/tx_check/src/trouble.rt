@@ -277,15 +277,15 @@ impl LineTrouble {
                 "the line ends with CR, which only version 3 takes: txos 3 in line 1",
             LineTrouble::ByteOrderMark => "the text begins with a byte-order mark, which must go",
             LineTrouble::Comment =>
-                "comments are of version 3 alone: txos 3 in line 1, and # before them",
+                "only version 3 has comments: txos 3 in line 1, and # before them",
             LineTrouble::OtherComment => "comments begin with #, in version 3",
             LineTrouble::Empty => "the line is empty, which only version 3 takes: txos 3 in line 1",
             LineTrouble::Space =>
-                "words are parted by one space, with none before or after them, but in version 3",
+                "before version 3 one space separates words, with none before or after them",
             LineTrouble::NoHeader => {
                 "a text begins with txos 3 schedule N or txos 3 program N, for N processes"
             }
-            LineTrouble::NoCall => "a call is wanted after the process",
+            LineTrouble::NoCall => "expected a call after the process",
             _ => self.misplaced(),
         }
     }
@@ -297,12 +297,12 @@ impl LineTrouble {
     {
         match self {
             LineTrouble::DeferIsLater => {
-                "sys_xbegin defer is not of version 1: txos 3 in line 1"
+                "sys_xbegin defer is not in version 1: txos 3 in line 1"
             }
-            LineTrouble::MovedIsLater => "moved is not of version 1: txos 3 in line 1",
+            LineTrouble::MovedIsLater => "moved is not in version 1: txos 3 in line 1",
             LineTrouble::CommandTooSoon => "commands come after a line debug",
             LineTrouble::DebugAgain => "commands have begun: debug is above",
-            LineTrouble::LabelInSchedule => "labels are of programs: txos 3 program N in line 1",
+            LineTrouble::LabelInSchedule => "labels need a program: txos 3 program N in line 1",
             LineTrouble::StepInProgram => "this is a program: its lines name no process",
             LineTrouble::DebugInProgram => {
                 "this is a program: txos run --workers N --turns T, and no commands"
@@ -322,7 +322,7 @@ impl LineTrouble {
             LineTrouble::NoSessionHeader => {
                 "a session begins with txos 3 schedule N, for 1 to 256 processes"
             }
-            LineTrouble::HeaderLate => "a header is only the first line of a session",
+            LineTrouble::HeaderLate => "only the first line of a session is a header",
             LineTrouble::ProgramInSession => "a session has steps, and no program: schedule",
             LineTrouble::DebugInSession => "a session takes commands without a line debug",
             LineTrouble::NoStep => "this is no step",
@@ -337,11 +337,11 @@ impl LineTrouble {
         ensures in_line { IsInLine result.now }
     {
         match self {
-            LineTrouble::ProgramHere => "this is a program, for txos run; a schedule is wanted",
-            LineTrouble::ScheduleHere => "this is a schedule, for txos replay; a program is wanted",
+            LineTrouble::ProgramHere => "this is a program, for txos run; expected a schedule",
+            LineTrouble::ScheduleHere => "this is a schedule, for txos replay; expected a program",
             LineTrouble::CommandsHere => "commands begin here, which only txos debug and json read",
-            LineTrouble::NoCommands => "a line debug is wanted, and commands after it",
-            _ => "this line is none of the grammar's",
+            LineTrouble::NoCommands => "expected a line debug, and commands after it",
+            _ => "the grammar has no such line",
         }
     }
 }
@@ -351,9 +351,9 @@ impl WordTrouble<'_> {
     pub fn sentence(self) -> &'static str {
         match self {
             WordTrouble::NoVersion => "the version is 1, 2 or 3",
-            WordTrouble::NoTextKind => "schedule or program is wanted",
-            WordTrouble::NoNumber => "a number is wanted, in decimal digits",
-            WordTrouble::ZeroBefore => "a number begins with no 0, and 0 has no sign",
+            WordTrouble::NoTextKind => "expected schedule or program",
+            WordTrouble::NoNumber => "expected a number in decimal digits",
+            WordTrouble::ZeroBefore => "a number has no leading 0, and 0 has no sign",
             WordTrouble::SignalName => "signals are numbers before version 3: txos 3 in line 1",
             WordTrouble::NoProcess => "a step begins with the number of its process, or kernel",
             WordTrouble::NoHexDigits => {
@@ -365,20 +365,20 @@ impl WordTrouble<'_> {
             WordTrouble::NoSet => "a set is - for none, or signal numbers joined by commas",
             WordTrouble::NotRising => "numbers of a set must rise",
             WordTrouble::NoName => "a name has 1 to 16 of a to z, 0 to 9 and _, a letter first",
-            WordTrouble::NoLabel => "a label is wanted: @NAME",
+            WordTrouble::NoLabel => "expected a label: @NAME",
             WordTrouble::NoSlot => "slots are $0 to $7",
             WordTrouble::LabelColon => "a label is a line label NAME",
-            WordTrouble::SessionCommand => "this is a command of txos shell, and of no text",
+            WordTrouble::SessionCommand => "this is a command of txos shell, not of a text",
             WordTrouble::NoNames => "processes get names only in schedules of version 3",
             WordTrouble::SignalFirst => "the process comes first, then the signal",
-            WordTrouble::NoneHere => "this line is none that may stand here",
+            WordTrouble::NoneHere => "this line is not allowed here",
             WordTrouble::SingleQuotes => { "a string is in double quotes, in version 3: \"text\"" }
             WordTrouble::NoProcessName => "a name has 1 to 16 letters, digits and . _ + -",
             WordTrouble::OpenString => "a string ends with \" in its line",
             WordTrouble::NoEscape =>
                 "the escapes of a string are \\n, \\t, \\0, \\\" and \\\\; hex digits are any bytes",
             WordTrouble::StringSize => "a string has 1 to 64 bytes",
-            WordTrouble::AfterString => "a space is wanted after a string",
+            WordTrouble::AfterString => "expected a space after a string",
             WordTrouble::NoStore => "a string is only the bytes of a store: store A \"text\"",
             WordTrouble::NoSignals => "a set is - for none, or signals joined by commas",
             WordTrouble::Twice => "a signal is in the set twice",
