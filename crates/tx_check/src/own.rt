@@ -7,7 +7,7 @@ ghost use Rattle.tx_check.specs.declared.trouble.LineTrouble.TheVariants as trou
 ghost use Rattle.tx_check.specs.declared.trouble.What.TheVariants as whats;
 ghost use Rattle.tx_lines.specs.Schedule.{first_line};
 
-use crate::places::{Part, TextLine, behind};
+use crate::places::{Part, TextLine, after_first_line};
 use crate::third::third_trouble;
 use crate::trouble::Trouble;
 use crate::words::{Word, count_words, word_at};
@@ -42,7 +42,7 @@ impl<'a> TextFrom<'a> {
     {
         let mut left = self.left;
         for _passed in 0..number - self.number {
-            left = behind(left);
+            left = after_first_line(left);
         }
         TextFrom { number, left }
     }

@@ -345,7 +345,7 @@ fn is_at(line: &[u8], column: usize, bytes: &[u8]) -> bool
     ensures { IsTrue result → IsAt line.now column bytes.now }
 {
     let (_front, left) = line.split_at(column - 1);
-    behind(bytes, left).is_some()
+    after_front(bytes, left).is_some()
 }
 
 /// Whether that byte is in that column of a line.
@@ -362,7 +362,7 @@ fn is_word_at(line: &[u8], column: usize, word: &[u8]) -> bool
     ensures { IsTrue result → IsWordAt line.now column word.now }
 {
     let (_front, left) = line.split_at(column - 1);
-    match behind(word, left) {
+    match after_front(word, left) {
         Some(rest) => ends_word(rest),
         None => false,
     }
@@ -379,7 +379,7 @@ fn ends_word(rest: &[u8]) -> bool
 }
 
 /// What follows that front of a line. Nothing where the line does not begin so.
-fn behind<'a>(front: &[u8], line: &'a [u8]) -> Option<&'a [u8]>
+fn after_front<'a>(front: &[u8], line: &'a [u8]) -> Option<&'a [u8]>
     ensures { MatchOption result ((rest : List ℕ) → line.now ≢ front.now ++ rest) (λ rest.
         line.now ≡ front.now ++ rest.now) }
 {

@@ -244,7 +244,7 @@ pub fn is_label(line: &[u8]) -> bool
 }
 
 /// What follows the first line of a text.
-pub fn behind(text: &[u8]) -> &[u8]
+pub fn after_first_line(text: &[u8]) -> &[u8]
     ensures { result.now ≡ spec.behind text.now }
 {
     take_line(text).1.unwrap_or(b"")

@@ -217,8 +217,8 @@ fn before(words: &str, mark: &'static str) -> &'static str {
 
 /// The characters of a word that begins with a quotation mark, and may end with one.
 fn characters_of(word: &[u8]) -> &[u8] {
-    let behind = word.strip_prefix(b"\"".as_slice()).unwrap_or(word);
-    behind.strip_suffix(b"\"".as_slice()).unwrap_or(behind)
+    let left = word.strip_prefix(b"\"".as_slice()).unwrap_or(word);
+    left.strip_suffix(b"\"".as_slice()).unwrap_or(left)
 }
 
 /// Says that characters are spelled by their bytes in hex.

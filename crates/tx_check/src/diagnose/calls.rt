@@ -48,10 +48,10 @@ pub fn form_trouble<'a>(
     place: usize,
 ) -> Option<Trouble<'a>> {
     let name = word_at(line, place)?;
-    let behind = count_words(line).saturating_sub(place).saturating_sub(1);
+    let count = count_words(line).saturating_sub(place).saturating_sub(1);
     let words = words_of(form, line, place);
-    if behind != count_of(words) {
-        return Some(Trouble::of_word(name, WordTrouble::Takes(form, behind)));
+    if count != count_of(words) {
+        return Some(Trouble::of_word(name, WordTrouble::Takes(form, count)));
     }
     let trouble = signal_first(form, line, place).or_else(|| arguments_trouble(
         kind, words, line, place,

@@ -13,10 +13,10 @@ pub fn ask_trouble<'a>(version: Version, line: &'a [u8]) -> Option<Trouble<'a>> 
     let Some(form) = form_of(SESSION.as_slice(), name.bytes) else {
         return Some(no_ask(name, version, line));
     };
-    let behind = count_words(line).saturating_sub(1);
+    let count = count_words(line).saturating_sub(1);
     let (least, most) = words_taken(form.words);
-    if behind < least || behind > most {
-        return Some(Trouble::of_word(name, WordTrouble::Takes(form, behind)));
+    if count < least || count > most {
+        return Some(Trouble::of_word(name, WordTrouble::Takes(form, count)));
     }
     match version {
         Version::One if form.name == "moved" => {

@@ -12,9 +12,9 @@ pub fn piece_trouble<'a>(line: &'a [u8]) -> Option<Trouble<'a>> {
     let Some(form) = form_of(PIECES.as_slice(), name.bytes) else {
         return Some(Trouble::of_word(name, WordTrouble::NoSuch(Names::Pieces)));
     };
-    let behind = count_words(line).saturating_sub(2);
-    if behind != count_of(form.words) {
-        return Some(Trouble::of_word(name, WordTrouble::Takes(form, behind)));
+    let count = count_words(line).saturating_sub(2);
+    if count != count_of(form.words) {
+        return Some(Trouble::of_word(name, WordTrouble::Takes(form, count)));
     }
     numbers_trouble(form.words, line, 2)
 }

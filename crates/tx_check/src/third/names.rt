@@ -26,9 +26,9 @@ pub fn naming_trouble<'a>(part: Part, own: &'a [u8], found: Trouble<'a>) -> Trou
 fn wrong_in<'a>(line: &'a [u8]) -> Option<Trouble<'a>> {
     let first = own_word(line, 0)?;
     let form = form_of(SESSION.as_slice(), first.bytes)?;
-    let behind = count_own_words(line).saturating_sub(1);
-    if behind != 2 {
-        return Some(Trouble::of_word(first, WordTrouble::Takes(form, behind)));
+    let count = count_own_words(line).saturating_sub(1);
+    if count != 2 {
+        return Some(Trouble::of_word(first, WordTrouble::Takes(form, count)));
     }
     number_trouble(own_word(line, 1)?).or_else(|| name_trouble(own_word(line, 2)?))
 }

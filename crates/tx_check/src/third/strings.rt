@@ -58,8 +58,8 @@ fn wrong_in(string: &[u8]) -> WordTrouble<'static> {
 }
 
 /// What is wrong with a string of so many bytes, and with what follows it.
-fn wrong_at_end(count: usize, behind: &[u8]) -> WordTrouble<'static> {
-    if !behind.is_empty() {
+fn wrong_at_end(count: usize, rest: &[u8]) -> WordTrouble<'static> {
+    if !rest.is_empty() {
         return WordTrouble::AfterString;
     }
     if count == 0 || count > BYTES {

@@ -5,4 +5,4 @@ use Rattle.tx_check.proofs.own.TextFrom.moved_to.Goals as goal
 
 pub loop-passed-preserved : goal.loop-passed-preserved
 loop-passed-preserved c =
-    c.behind-left.ensures ∙ ap behind c.loop-passed.invariant ∙ lines_more c.loop-passed._passed c.args.self.left.now
+    c.after_first_line-left.ensures ∙ ap behind c.loop-passed.invariant ∙ lines_more c.loop-passed._passed c.args.self.left.now
