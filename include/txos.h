@@ -3,7 +3,7 @@
  * Link with libtxos.a, which needs nothing but the C library. docs/LIBRARY.md has examples.
  *
  * Each function reads a whole text of `length` bytes, and puts its answer, without a NUL byte
- * behind it, at the front of `answer`, where there is room for `room` bytes. `text` may be NULL
+ * after it, at the front of `answer`, where there is room for `room` bytes. `text` may be NULL
  * where `length` is 0, and `answer` where `room` is 0. `*size` becomes how many bytes the answer
  * has, whatever comes of the call, so a call without room asks how much is wanted. The same text
  * gets the same answer each time.

@@ -20,7 +20,7 @@ def squeezed(content):
 
 
 def folders_above(entries):
-    """The folders that the files stand in, those above first."""
+    """The folders that the files are in, those above first."""
     parts = [it.path.split("/")[:-1] for it in entries]
     return sorted({"/".join(it[:end]) for it in parts for end in range(1, len(it) + 1)})
 
@@ -34,7 +34,7 @@ def member(name, mode, date, kind, size=0):
 
 
 def tar_of(entries, date, root):
-    """A tar archive of the files, and of the folders that they stand in, below a root."""
+    """A tar archive of the files, and of the folders that they are in, below a root."""
     room = io.BytesIO()
     with tarfile.open(fileobj=room, mode="w", format=tarfile.USTAR_FORMAT) as archive:
         for folder in folders_above(entries):

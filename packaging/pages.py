@@ -27,9 +27,9 @@ def block(text):
     return f".PP\n.nf\n{roff(text.rstrip())}\n.fi"
 
 
-def row(word, told):
+def row(word, meaning):
     """A word, and what is said of it."""
-    return f".TP\n.B {roff(word)}\n{roff(told)}"
+    return f".TP\n.B {roff(word)}\n{roff(meaning)}"
 
 
 def rows_part(command):
@@ -45,8 +45,8 @@ def command_part(program, command):
 
 def fault_part(page):
     """What the manual says of a fault, by the first line of its page."""
-    word, _, told = page.splitlines()[0].partition(": ")
-    return f".RS\n{row(word, told)}\n.RE"
+    word, _, meaning = page.splitlines()[0].partition(": ")
+    return f".RS\n{row(word, meaning)}\n.RE"
 
 
 def synopsis(commands):
@@ -103,11 +103,11 @@ def recorder_manual(recorder, program, date):
 
 def completion(name, asked):
     """A file of completions, of the program or of txos-record."""
-    commands, behind = asked.commands(), asked.words_behind()
+    commands, after = asked.commands(), asked.words_after()
     return filled(name, {
         "COMMANDS": " ".join(it.name for it in commands),
-        "COMMANDS_TOLD": "\n".join(f"    {shlex.quote(f'{it.name}:{it.about}')}" for it in commands),
+        "COMMANDS_DESCRIBED": "\n".join(f"    {shlex.quote(f'{it.name}:{it.about}')}" for it in commands),
         "OPTIONS": " ".join(long_options(asked.options())),
-        "BASH_CASES": "\n".join(f"        *:{it}) words='{' '.join(behind[it])}' ;;" for it in behind),
-        "ZSH_CASES": "\n".join(f"    *:{it}) compadd -- {' '.join(behind[it])} ;;" for it in behind),
+        "BASH_CASES": "\n".join(f"        *:{it}) words='{' '.join(after[it])}' ;;" for it in after),
+        "ZSH_CASES": "\n".join(f"    *:{it}) compadd -- {' '.join(after[it])} ;;" for it in after),
     })

@@ -17,11 +17,11 @@ def is_choice(action):
 
 def row_of(parser, action):
     """An argument or an option, as `-o, --output FILE`, and what it is."""
-    told = (action.help or "") % {**vars(action), "prog": parser.prog}
+    meaning = (action.help or "") % {**vars(action), "prog": parser.prog}
     if not action.option_strings:
-        return action.metavar or action.dest, told
+        return action.metavar or action.dest, meaning
     value = parser._get_formatter()._format_args(action, action.dest.upper())
-    return f"{', '.join(action.option_strings)} {value}".rstrip(), told
+    return f"{', '.join(action.option_strings)} {value}".rstrip(), meaning
 
 
 def rows_of(parser):
@@ -62,8 +62,8 @@ class Recorder:
         """Its own options, each with what it is."""
         return rows_of(self.parser)
 
-    def words_behind(self):
-        """For each command the options that may stand behind it."""
+    def words_after(self):
+        """For each command the options that may be after it."""
         return {
             name: [option for it in parser._actions for option in it.option_strings[-1:]]
             for name, parser in self.choice.choices.items()

@@ -1,4 +1,4 @@
-# The words of txos-record, for bash to complete. Behind a command, what is no option is a file.
+# The words of txos-record, for bash to complete. After a command, what is no option is a file.
 _txos_record() {
     local words=''
     case $COMP_CWORD:${COMP_WORDS[1]} in

@@ -68,7 +68,7 @@ class Program:
         usage = re.search(r"^Usage: (.*)", help_text, re.MULTILINE)
         return Command(name, help_text.splitlines()[0], usage[1], rows_of(help_text, "Arguments", "Options"))
 
-    def told_of(self, name, argument):
+    def help_of(self, name, argument):
         """What the help of a command says of an argument."""
         return dict(self.command(name).rows).get(argument, "")
 
@@ -95,11 +95,11 @@ class Program:
         commands = next(it for it in self.groups() if it.title == "commands of txos")
         return self.page(name) if name in commands.words else ""
 
-    def words_behind(self):
-        """For each command the words that may stand behind it."""
+    def words_after(self):
+        """For each command the words that may be after it."""
         commands = self.commands()
         words = {it.name: long_options(it.rows) for it in commands}
         words["help"] += [it.name for it in commands]
-        words["check"] += [it.name for it in commands if re.search(rf"\b{it.name}\b", self.told_of("check", "[command]"))]
+        words["check"] += [it.name for it in commands if re.search(rf"\b{it.name}\b", self.help_of("check", "[command]"))]
         words["explain"] += [word for it in self.groups() for word in it.words]
         return words

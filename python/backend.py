@@ -88,11 +88,11 @@ def _write_wheel(folder: Path, files: Dict[str, bytes]) -> str:
     """Writes a wheel of these files, and of what it says of itself."""
     tables = read_tables()
     info = f"{_name_of(tables)}.dist-info"
-    told = {"METADATA": _metadata(tables), "WHEEL": _WHEEL, "entry_points.txt": _scripts(tables)}
+    metadata = {"METADATA": _metadata(tables), "WHEEL": _WHEEL, "entry_points.txt": _scripts(tables)}
     files = {
         **files,
         **{f"{info}/licenses/{name}": content for name, content in _licences(tables).items()},
-        **{f"{info}/{name}": text.encode() for name, text in told.items()},
+        **{f"{info}/{name}": text.encode() for name, text in metadata.items()},
     }
     files[f"{info}/RECORD"] = _record(files, f"{info}/RECORD").encode()
     wheel = f"{_name_of(tables)}-py3-none-any.whl"

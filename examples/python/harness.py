@@ -1,7 +1,7 @@
 #!/usr/bin/env python3
 """A test harness over one kernel: each test begins at the same state, and nothing is started anew.
 
-The steps that all tests begin with are made once. Behind each test the harness goes back to that
+The steps that all tests begin with are made once. After each test the harness goes back to that
 position, over what the test did, its commits and aborts too, and lets go of it. Two of the tests
 are wrong, to show what is said of them.
 

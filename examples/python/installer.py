@@ -1,7 +1,7 @@
 #!/usr/bin/env python3
 """An installer's idea, tried against the rules of transactions: all of it, or nothing.
 
-Process 2 installs a new version over the old one, in a transaction: it writes its pages, tells the
+Process 2 installs a new version over the old one, in a transaction: it writes its pages, asks the
 service, process 3, to begin anew, and lets a child look whether all is there. The first time it
 forgets the configuration; so it looks what would be left, takes all back, and does it again.
 
@@ -62,7 +62,7 @@ def main():
         if install(kernel, NEW + CONFIGURATION):
             print(f"  and ends its part: {kernel.step('2 sys_xend')}")
         print(f"installed: {version(kernel)}")
-        print(f"the service is told only now: {kernel.step('3 deliver USR1')}")
+        print(f"the service hears of it only now: {kernel.step('3 deliver USR1')}")
         print(f"  it goes on at point {kernel.state().procs[3].point}")
         found = kernel.when("page 2 0")
         print(f"what is installed was written by step {found.number}: {found.step}")

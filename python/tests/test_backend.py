@@ -46,11 +46,11 @@ class Builds(unittest.TestCase):
 
     def test_the_version_is_that_of_the_program(self):
         files, info = self.wheel()
-        told = Parser().parsestr(files[f"{info}/METADATA"].decode())
-        self.assertEqual((told["Name"], told["Version"]), ("txos", program_version()))
-        self.assertEqual(told["Requires-Python"], ">=3.8")
-        self.assertEqual(told["License-Expression"], "MIT OR Apache-2.0")
-        self.assertIsNone(told["Requires-Dist"])
+        said = Parser().parsestr(files[f"{info}/METADATA"].decode())
+        self.assertEqual((said["Name"], said["Version"]), ("txos", program_version()))
+        self.assertEqual(said["Requires-Python"], ">=3.8")
+        self.assertEqual(said["License-Expression"], "MIT OR Apache-2.0")
+        self.assertIsNone(said["Requires-Dist"])
 
     def test_a_wheel_has_the_package_and_its_licences(self):
         files, info = self.wheel()
@@ -67,8 +67,8 @@ class Builds(unittest.TestCase):
         rows = {it[0]: it[1:] for it in csv.reader(files[f"{info}/RECORD"].decode().splitlines())}
         self.assertEqual(rows.pop(f"{info}/RECORD"), ["", ""])
         self.assertEqual({*rows, f"{info}/RECORD"}, set(files))
-        for path, (told, size) in rows.items():
-            padded = f"{told.replace('sha256=', '')}="
+        for path, (digest, size) in rows.items():
+            padded = f"{digest.replace('sha256=', '')}="
             self.assertEqual(base64.urlsafe_b64decode(padded), hashlib.sha256(files[path]).digest())
             self.assertEqual(int(size), len(files[path]))
 

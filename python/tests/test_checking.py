@@ -1,4 +1,4 @@
-"""Tests of txos.checking and txos.replays: which steps are told, and what is no recording."""
+"""Tests of txos.checking and txos.replays: which steps are reported, and what is no recording."""
 
 import io
 import os
@@ -31,7 +31,7 @@ PIPELINE = """2 map 0
 
 
 def compared(steps):
-    """How the answers to steps compare, and what is told of each that differs."""
+    """How the answers to steps compare, and what is said of each that differs."""
     comparison = compare(read_recording(HEAD + steps))
     return str(comparison), [str(it) for it in comparison.differing]
 
@@ -40,43 +40,43 @@ def ran(*words, standard_input=b""):
     """The status of the command, and what it writes to its two outputs."""
     given = io.TextIOWrapper(io.BytesIO(standard_input))
     with mock.patch("sys.stdin", given):
-        with redirect_stdout(io.StringIO()) as output, redirect_stderr(io.StringIO()) as told:
+        with redirect_stdout(io.StringIO()) as output, redirect_stderr(io.StringIO()) as said:
             status = txos.command.main(words)
-    return status, output.getvalue(), told.getvalue()
+    return status, output.getvalue(), said.getvalue()
 
 
 class Comparison(unittest.TestCase):
     """Which steps differ from Linux's answers."""
 
     def test_a_recording_that_is_as_linux(self):
-        told = "8 steps as Linux, 2 with nothing to compare, 0 differ"
-        self.assertEqual(compared(PIPELINE), (told, []))
+        said = "8 steps as Linux, 2 with nothing to compare, 0 differ"
+        self.assertEqual(compared(PIPELINE), (said, []))
 
     def test_one_step_is_one(self):
         steps = "2 close 3  # = ok -9  # 5 close\n2 close 3  # = ok 0  # 6 close\n"
-        told = "1 step as Linux, 0 with nothing to compare, 1 differs"
-        self.assertEqual(compared(steps)[0], told)
+        said = "1 step as Linux, 0 with nothing to compare, 1 differs"
+        self.assertEqual(compared(steps)[0], said)
 
     def test_no_step(self):
-        told = "0 steps as Linux, 0 with nothing to compare, 0 differ"
-        self.assertEqual(compared(""), (told, []))
+        said = "0 steps as Linux, 0 with nothing to compare, 0 differ"
+        self.assertEqual(compared(""), (said, []))
 
-    def test_a_step_that_differs_is_told_with_both_answers_and_the_line(self):
+    def test_a_step_that_differs_is_reported_with_both_answers_and_the_line(self):
         waits = PIPELINE.replace("no N9", "ok 0")
-        told = "step 4, line 12 of the log: 3 read 0 0 1: Linux ok 0, here no N9"
-        self.assertEqual(compared(waits)[1], [told])
+        said = "step 4, line 12 of the log: 3 read 0 0 1: Linux ok 0, here no N9"
+        self.assertEqual(compared(waits)[1], [said])
 
     def test_an_error_has_its_name(self):
         closed = PIPELINE.replace("ok -9", "ok 0")
-        told = "step 7, line 15 of the log: 2 close 9: Linux ok 0, here ok -9 (EBADF)"
-        self.assertEqual(compared(closed)[1], [told])
+        said = "step 7, line 15 of the log: 2 close 9: Linux ok 0, here ok -9 (EBADF)"
+        self.assertEqual(compared(closed)[1], [said])
         child = PIPELINE.replace("# = ok 3  # 18", "# = ok -10  # 18")
-        told = "step 10, line 18 of the log: 2 waitpid 3 wait: Linux ok -10 (ECHILD), here ok 3"
-        self.assertEqual(compared(child)[1], [told])
+        said = "step 10, line 18 of the log: 2 waitpid 3 wait: Linux ok -10 (ECHILD), here ok 3"
+        self.assertEqual(compared(child)[1], [said])
 
     def test_what_linux_did_has_to_be_accepted(self):
-        told = "step 1, line 4 of the log: 2 deliver TERM: Linux did it, here no N10"
-        self.assertEqual(compared("2 deliver TERM  # 4 SIGTERM\n")[1], [told])
+        said = "step 1, line 4 of the log: 2 deliver TERM: Linux did it, here no N10"
+        self.assertEqual(compared("2 deliver TERM  # 4 SIGTERM\n")[1], [said])
         self.assertEqual(compared("2 waitpid 9 nohang  # 4 wait4\n")[1], [])
 
     def test_what_sets_up_has_to_be_accepted(self):
@@ -84,18 +84,18 @@ class Comparison(unittest.TestCase):
 
     def test_an_end_that_commits_is_an_end(self):
         steps = "2 fork 3  # = ok 3  # 4 clone\n3 sys_xbegin\n3 exit 0  # = ended  # 5 exit_group\n"
-        told = "2 steps as Linux, 1 with nothing to compare, 0 differ"
-        self.assertEqual(compared(steps), (told, []))
+        said = "2 steps as Linux, 1 with nothing to compare, 0 differ"
+        self.assertEqual(compared(steps), (said, []))
 
-    def test_each_answer_that_is_another_is_told(self):
+    def test_each_answer_that_is_another_is_reported(self):
         lines = PIPELINE.splitlines(keepends=True)
         steps = [it for it in lines if not it.startswith("#")]
         changed = 0
         for number, line in enumerate(steps, 1):
             if "# = " in line:
                 other = line.replace("# = ", "# = x")
-                told = compared(PIPELINE.replace(line, other))[1]
-                self.assertEqual([it.split(",")[0] for it in told], [f"step {number}"])
+                said = compared(PIPELINE.replace(line, other))[1]
+                self.assertEqual([it.split(",")[0] for it in said], [f"step {number}"])
                 changed += 1
         self.assertEqual(changed, 8)
 
@@ -114,8 +114,8 @@ class Comparison(unittest.TestCase):
         closed = "line 5 of the log: 2 close 3: Linux ok 0, here ok -9 (EBADF)"
         for count in (4093, 4094, 10_000):
             counts = f"{count:,} steps as Linux, 1 with nothing to compare, 2 differ"
-            told = [f"step {count + 1}, {closed}", f"step {count + 3}: 9 getpid: here no N1"]
-            self.assertEqual(compared(step * count + others), (counts, told))
+            said = [f"step {count + 1}, {closed}", f"step {count + 3}: 9 getpid: here no N1"]
+            self.assertEqual(compared(step * count + others), (counts, said))
 
 
 class Command(unittest.TestCase):
@@ -134,27 +134,27 @@ class Command(unittest.TestCase):
     def test_the_status_says_whether_a_step_differs(self):
         summary = "8 steps as Linux, 2 with nothing to compare, 0 differ\n"
         self.assertEqual(self.check(HEAD + PIPELINE), (0, summary, ""))
-        status, output, told = self.check(HEAD + PIPELINE.replace("ok -9", "ok 0"))
-        self.assertEqual((status, told), (1, ""))
+        status, output, said = self.check(HEAD + PIPELINE.replace("ok -9", "ok 0"))
+        self.assertEqual((status, said), (1, ""))
         self.assertEqual(len(output.splitlines()), 2)
 
     def test_standard_input(self):
         status, output, _ = ran("check", "-", standard_input=(HEAD + PIPELINE).encode())
         self.assertEqual((status, output[:16]), (0, "8 steps as Linux"))
-        status, _, told = ran("check", "-", standard_input=b"x")
+        status, _, said = ran("check", "-", standard_input=b"x")
         self.assertEqual(status, 1)
-        self.assertTrue(told.startswith("txos-record: standard input: line 1: "), told)
+        self.assertTrue(said.startswith("txos-record: standard input: line 1: "), said)
 
     def test_what_begins_as_no_recording_is_not_read_to_its_end(self):
         with subprocess.Popen(["yes"], stdout=subprocess.PIPE) as endless:
             with mock.patch("sys.stdin", mock.Mock(buffer=endless.stdout)):
-                with redirect_stderr(io.StringIO()) as told:
+                with redirect_stderr(io.StringIO()) as said:
                     status = txos.command.main(["check", "-"])
             endless.kill()
         self.assertEqual(status, 1)
-        self.assertIn("standard input: line 1: this is no recording", told.getvalue())
+        self.assertIn("standard input: line 1: this is no recording", said.getvalue())
 
-    def test_what_is_no_recording_is_told_with_its_line(self):
+    def test_what_is_no_recording_is_reported_with_its_line(self):
         for text, line in (
             (b"", 1),
             (b"\x7fELF\x00\xff\n", 1),
@@ -167,13 +167,13 @@ class Command(unittest.TestCase):
             (HEAD + f"2 map 0\nname 2 {'a' * 17}\n", 6),
             (HEAD + "2 fork 3  # = ok 3  # 5 clone\n2 map 0 0  # 6 mmap\n", 6),
         ):
-            status, output, told = self.check(text)
+            status, output, said = self.check(text)
             self.assertEqual((status, output), (1, ""), text)
-            self.assertTrue(told.startswith(f"txos-record: {self.file}: line {line}: "), told)
+            self.assertTrue(said.startswith(f"txos-record: {self.file}: line {line}: "), said)
 
     def test_a_file_that_is_not_there(self):
-        told = f"txos-record: {self.file}: No such file or directory\n"
-        self.assertEqual(ran("check", self.file), (1, "", told))
+        said = f"txos-record: {self.file}: No such file or directory\n"
+        self.assertEqual(ran("check", self.file), (1, "", said))
 
     def test_bytes_that_are_no_text_are_shown(self):
         status, output, _ = self.check(HEAD.encode() + b"# 2 is caf\xc3\xa9 \xff\n")

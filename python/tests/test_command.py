@@ -29,10 +29,10 @@ def parser_of(run):
 
 def ended(run):
     """The status of a command that does as a function does, and what it says of it."""
-    told = StringIO()
+    said = StringIO()
     with mock.patch("txos.command.build_parser", return_value=parser_of(run)):
-        with redirect_stdout(StringIO()), redirect_stderr(told):
-            return txos.command.main([]), told.getvalue()
+        with redirect_stdout(StringIO()), redirect_stderr(said):
+            return txos.command.main([]), said.getvalue()
 
 
 def raising(error):
@@ -52,8 +52,8 @@ class Ends(unittest.TestCase):
     def test_a_fault_has_its_sentence_and_its_status(self):
         self.assertEqual(raising(Fault("it is so")), (1, "txos-record: it is so\n"))
         self.assertEqual(raising(Fault("no strace", 3)), (3, "txos-record: no strace\n"))
-        told = "txos-record: line 4: no step\n"
-        self.assertEqual(raising(BadRecording(4, "no step")), (1, told))
+        said = "txos-record: line 4: no step\n"
+        self.assertEqual(raising(BadRecording(4, "no step")), (1, said))
         self.assertEqual(raising(TxosError("wrong")), (1, "txos-record: wrong\n"))
 
     def test_a_file_that_is_not_there_is_named(self):
@@ -67,9 +67,9 @@ class Ends(unittest.TestCase):
     def test_no_program_has_a_status_of_its_own(self):
         self.assertEqual(raising(NoProgram("none")), (3, "txos-record: none\n"))
         # As the script of a checkout ends that finds no program.
-        status, told = raising(ShellEnded(3, "txos: there is no program of these sources"))
+        status, said = raising(ShellEnded(3, "txos: there is no program of these sources"))
         self.assertEqual(status, 3)
-        self.assertIn("txos: there is no program of these sources", told)
+        self.assertIn("txos: there is no program of these sources", said)
         for other in (1, -signal.SIGKILL):
             self.assertEqual(raising(ShellEnded(other))[0], 1)
 
@@ -78,10 +78,10 @@ class Ends(unittest.TestCase):
 
     def test_words_that_are_not_understood(self):
         for words in ([], ["no-such-command"]):
-            with redirect_stderr(StringIO()) as told, self.assertRaises(SystemExit) as end:
+            with redirect_stderr(StringIO()) as said, self.assertRaises(SystemExit) as end:
                 txos.command.main(words)
             self.assertEqual(end.exception.code, 2)
-            self.assertIn("usage: txos-record", told.getvalue())
+            self.assertIn("usage: txos-record", said.getvalue())
 
 
 class Output(unittest.TestCase):
@@ -120,5 +120,5 @@ class Output(unittest.TestCase):
 
     def test_a_device_that_is_full(self):
         with open("/dev/full", "wb") as full:
-            status, told = self.help_to(full)
-        self.assertEqual((status, told), (1, b"txos-record: No space left on device\n"))
+            status, said = self.help_to(full)
+        self.assertEqual((status, said), (1, b"txos-record: No space left on device\n"))

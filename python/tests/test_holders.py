@@ -68,8 +68,8 @@ class Pipes(unittest.TestCase):
     def test_each_holder_with_its_descriptors(self):
         read = "2 sh (descriptor 3), 3 sleep (descriptor 3), 4 cat (descriptors 0, 3)"
         write = "2 sh (descriptor 4), 3 sleep (descriptor 1)"
-        told = f"pipe 0, empty: read side held by {read}; write side held by {write}"
-        self.assertEqual(reported(HANG)[1], [told])
+        said = f"pipe 0, empty: read side held by {read}; write side held by {write}"
+        self.assertEqual(reported(HANG)[1], [said])
 
     def test_after_so_many_steps(self):
         held = "held by 2 sh (descriptor 3); write side held by 2 sh (descriptor 4)"
@@ -91,8 +91,8 @@ class Pipes(unittest.TestCase):
             (8, 3, "3 units of 8 bytes"),
         ):
             head = HEAD.replace("factor: 1", f"factor: {factor}")
-            told = reported(steps.format(count), head=head)[1][0]
-            self.assertTrue(told.startswith(f"pipe 5, {size}: "), told)
+            said = reported(steps.format(count), head=head)[1][0]
+            self.assertTrue(said.startswith(f"pipe 5, {size}: "), said)
 
 
 class Moments(unittest.TestCase):
@@ -110,8 +110,8 @@ class Moments(unittest.TestCase):
 
     def test_just_before_the_first_signal(self):
         self.assertEqual(self.forced(HANG + INTERRUPTED), 13)
-        told = "After 13 of 19 steps, before 1 kill 3 INT: sh -c x"
-        self.assertEqual(reported(HANG + INTERRUPTED)[0], [told])
+        said = "After 13 of 19 steps, before 1 kill 3 INT: sh -c x"
+        self.assertEqual(reported(HANG + INTERRUPTED)[0], [said])
 
     def test_who_gets_an_alarm_and_kills_the_others(self):
         alarm = "1 kill 2 ALRM  # 20 SIGALRM\n2 deliver ALRM  # = ok 0  # 20 SIGALRM\n"
@@ -153,7 +153,7 @@ class Waits(unittest.TestCase):
     """Calls that wait."""
 
     def test_each_that_waits_before_the_end_was_forced(self):
-        told = [
+        said = [
             "step 12, line 17 of the log: 2 sh waits for 3 sleep to end",
             "  it waited until 3 sleep was killed by INT (step 15)",
             "step 13, line 18 of the log: 4 cat waits to read from pipe 0, which is empty",
@@ -161,7 +161,7 @@ class Waits(unittest.TestCase):
             "  write side held by 2 sh (descriptor 4), 3 sleep (descriptor 1)",
             "  2 sh waits for 3 sleep to end (step 12)",
         ]
-        self.assertEqual(reported(HANG + INTERRUPTED)[2], told)
+        self.assertEqual(reported(HANG + INTERRUPTED)[2], said)
 
     def test_one_that_ended_since_another_was_killed(self):
         ended = HANG.replace("4 read 0 0 1  # = no N9  # 18 read\n", "")
@@ -198,14 +198,14 @@ class Waits(unittest.TestCase):
             # What closes early is a part of the end.
             (ended.replace("4 deliver", "4 close 0  # = ok 0  # 20 SIGTERM\n4 deliver"), 16),
         ):
-            told = f"  it waited until it was killed by TERM (step {step})"
-            self.assertIn(told, reported(HANG + steps)[2])
+            said = f"  it waited until it was killed by TERM (step {step})"
+            self.assertIn(said, reported(HANG + steps)[2])
         # A process at which SIGKILL is pending does nothing any more.
-        told = "  it waited until it was killed by KILL (step 15)"
-        self.assertIn(told, reported(HANG + ended.replace("TERM", "KILL"))[2])
+        said = "  it waited until it was killed by KILL (step 15)"
+        self.assertIn(said, reported(HANG + ended.replace("TERM", "KILL"))[2])
         exits = "4 close 0  # = ok 0  # 20 exit_group\n4 exit 7  # = ended  # 20 exit_group\n"
-        told = "  it waited until it ended by exit 7 (step 15)"
-        self.assertIn(told, reported(HANG + exits)[2])
+        said = "  it waited until it ended by exit 7 (step 15)"
+        self.assertIn(said, reported(HANG + exits)[2])
 
     def test_the_process_goes_on(self):
         steps = HANG + "4 close 9  # = ok -9  # 21 close\n"
@@ -225,27 +225,27 @@ class Waits(unittest.TestCase):
 
     def test_at_a_step_only_those_that_wait_then(self):
         self.assertEqual(reported(HANG, at=4)[2], ["No call waits after step 4."])
-        told = [
+        said = [
             "step 12, line 17 of the log: 2 sh waits for 3 sleep to end",
             "  it waited until 3 sleep was killed by INT (step 15)",
         ]
-        self.assertEqual(reported(HANG + INTERRUPTED, at=14)[2][:2], told)
+        self.assertEqual(reported(HANG + INTERRUPTED, at=14)[2][:2], said)
         self.assertEqual(reported(HANG + INTERRUPTED, at=18)[2], ["No call waits after step 18."])
         end = ["No call waits at the end of the recording."]
         self.assertEqual(reported(HANG + INTERRUPTED, at=19)[2], end)
 
     def test_a_call_that_the_kernel_lacks(self):
         note = "# 3 waits in futex since line 9\n"
-        told = "line 9 of the log: 3 sleep waits in futex, which the kernel does not have"
-        ended = [told, "  it waited until it was killed by INT (step 15)"]
+        said = "line 9 of the log: 3 sleep waits in futex, which the kernel does not have"
+        ended = [said, "  it waited until it was killed by INT (step 15)"]
         self.assertEqual(reported(HANG + note + INTERRUPTED)[2][-2:], ended)
         self.assertEqual(
-            reported(HANG + note)[2][-2:], [told, "  it waited to the end of the recording"]
+            reported(HANG + note)[2][-2:], [said, "  it waited to the end of the recording"]
         )
         goes_on = HANG + note + "3 close 9  # = ok -9  # 20 close\n"
         self.assertIn("  it waited until step 14: 3 close 9", reported(goes_on, at=13)[2])
-        self.assertNotIn(told, reported(goes_on)[2])
-        self.assertNotIn(told, reported(HANG + note, at=12)[2])
+        self.assertNotIn(said, reported(goes_on)[2])
+        self.assertNotIn(said, reported(HANG + note, at=12)[2])
 
     def test_a_number_that_is_used_again_waits_no_more(self):
         killed = "1 kill 4 TERM\n4 deliver TERM\n2 waitpid 4 wait\n2 fork 4\n"
@@ -259,7 +259,7 @@ class Waits(unittest.TestCase):
             "2 pipe 0 0 1\n2 pipe 1 2 3\n2 fork 3  # = ok 3  # 5 clone\n2 close 3\n3 close 1\n"
             "2 read 0 0 1  # = no N9  # 6 poll\n2 read 2 0 1  # = no N9  # 6 poll\n"
         )
-        told = [
+        said = [
             "step 7, line 6 of the log: 2 waits in poll to read from pipe 0, which is empty",
             "  it waited to the end of the recording",
             "  write side held by 2 (descriptor 1)",
@@ -268,7 +268,7 @@ class Waits(unittest.TestCase):
             "  it waited to the end of the recording",
             "  write side held by 3 (descriptor 3)",
         ]
-        self.assertEqual(reported("2 map 0\n" + steps)[2], told)
+        self.assertEqual(reported("2 map 0\n" + steps)[2], said)
         # Before the call it would wait for both too; when it goes on, it waits for none.
         for at, end, count in ((6, "", 7), (9, "2 close 9  # = ok -9  # 7 close\n", 1)):
             self.assertEqual(len(reported("2 map 0\n" + steps + end, at=at)[2]), count, at)
@@ -279,29 +279,29 @@ class Waits(unittest.TestCase):
             + "2 write 1 0 64  # = ok 64  # 6 write\n" * 8
             + "2 write 1 0 1  # = no N9  # 7 write\n"
         )
-        told = [
+        said = [
             "step 12, line 7 of the log: 2 waits to write to pipe 7, which has no room for it",
             "  it waited to the end of the recording",
             "  read side held by 2 (descriptor 0), 3 (descriptor 0)",
             "  a circle: 2 waits for itself",
         ]
-        self.assertEqual(reported(steps)[2], told)
+        self.assertEqual(reported(steps)[2], said)
 
     def test_a_circle_of_two(self):
         steps = HANG.replace("waitpid 3 wait", "waitpid 4 wait")
-        told = reported(steps)[2]
-        self.assertIn("  a circle: 2 sh waits for 4 cat waits for 2 sh", told)
-        self.assertIn("  a circle: 4 cat waits for 2 sh waits for 4 cat", told)
+        said = reported(steps)[2]
+        self.assertIn("  a circle: 2 sh waits for 4 cat waits for 2 sh", said)
+        self.assertIn("  a circle: 4 cat waits for 2 sh waits for 4 cat", said)
         self.assertIn(
             "  4 cat waits to read from pipe 0, which is empty (step 13); "
             "write side held by 2 sh (descriptor 4), 3 sleep (descriptor 1)",
-            told,
+            said,
         )
 
     def test_a_call_that_does_not_wait_here(self):
         steps = "2 close 3  # = no N9  # 5 close\n"
-        told = ["step 1, line 5 of the log: 2 close 3: Linux waited, here ok -9"]
-        self.assertEqual(reported(steps)[2], told)
+        said = ["step 1, line 5 of the log: 2 close 3: Linux waited, here ok -9"]
+        self.assertEqual(reported(steps)[2], said)
 
     def test_no_call_waits(self):
         none = ["No call waits at the end of the recording."]
@@ -364,13 +364,13 @@ class Zombies(unittest.TestCase):
     """Ended processes that nobody waited for."""
 
     def test_while_the_parent_runs(self):
-        told = [
+        said = [
             f"step {number}, line {line} of the log: {number} ended (exit {number}) "
             "and nobody has waited for it; its parent is 2"
             for number, line in ((3, 12), (4, 13))
         ]
-        self.assertEqual(reported(TWO_ENDS)[3], told)
-        self.assertEqual(reported(TWO_ENDS, at=3)[3], told[:1])
+        self.assertEqual(reported(TWO_ENDS)[3], said)
+        self.assertEqual(reported(TWO_ENDS, at=3)[3], said[:1])
         self.assertEqual(reported(TWO_ENDS, at=2)[3], ["There is no zombie after step 2."])
 
     def test_who_was_waited_for_is_none(self):
@@ -387,9 +387,9 @@ class Zombies(unittest.TestCase):
         before = [f"{place} nobody has waited for it; its parent is 2"]
         self.assertEqual(reported(steps)[3], before)
         self.assertEqual(reported(steps, at=8)[3], ["There is no zombie after step 8."])
-        told = [f"{place} nobody waited for it; its parent 2 ended at step 8 (exit 9)"]
+        said = [f"{place} nobody waited for it; its parent 2 ended at step 8 (exit 9)"]
         exits = steps.replace("1 kill 2 TERM", "2 close 9").replace("deliver TERM", "exit 9")
-        self.assertEqual(reported(exits)[3], told)
+        self.assertEqual(reported(exits)[3], said)
 
     def test_a_number_that_is_used_again(self):
         steps = TWO_ENDS + (
@@ -410,25 +410,25 @@ class Signals(unittest.TestCase):
     """Signals that were sent while they were pending."""
 
     def test_a_sigchld_whose_loss_leaves_a_zombie(self):
-        told = [
+        said = [
             "step 5, line 13 of the log: the SIGCHLD of 4 (exit 4) to 2 was lost: "
             "one was pending since step 4: 3 exit 3"
         ]
-        self.assertEqual(reported(CATCHES + TWO_ENDS)[4], told)
+        self.assertEqual(reported(CATCHES + TWO_ENDS)[4], said)
 
     def test_a_sigchld_of_children_that_were_waited_for(self):
         waits = "2 waitpid 3 wait  # = ok 3  # 15 wait4\n2 waitpid 4 wait  # = ok 4  # 16 wait4\n"
-        told = reported(CATCHES + TWO_ENDS + waits)[4]
-        self.assertEqual(len(told), 1)
-        self.assertTrue(told[0].startswith("A second SIGCHLD to 2 (step 5) was merged with the "))
+        said = reported(CATCHES + TWO_ENDS + waits)[4]
+        self.assertEqual(len(said), 1)
+        self.assertTrue(said[0].startswith("A second SIGCHLD to 2 (step 5) was merged with the "))
 
     def test_a_sigchld_that_is_ignored(self):
         third = "2 fork 5  # = ok 5  # 11 clone\n5 exit 5  # = ended  # 12 exit_group\n"
         steps = TWO_ENDS.replace("2 deliver", f"{third}2 deliver")
-        told = reported(steps)[4]
-        self.assertEqual(len(told), 1)
+        said = reported(steps)[4]
+        self.assertEqual(len(said), 1)
         what = "2 more SIGCHLD to 2 (the first at step 4) were merged with those before, "
-        self.assertEqual(told[0], f"{what}and would have made no difference.")
+        self.assertEqual(said[0], f"{what}and would have made no difference.")
 
     def test_a_blocked_signal_is_one_that_matters(self):
         blocked = "2 sigprocmask block CHLD  # = ok 0  # 9 rt_sigprocmask\n"
@@ -444,23 +444,23 @@ class Signals(unittest.TestCase):
     def test_a_kill_of_a_signal_that_is_pending(self):
         caught = "2 fork 3\n3 sigaction TERM catch 1 -\n"
         kills = f"{caught}2 kill 3 TERM\n1 kill 3 SIGTERM\n1 kill 3 15\n"
-        told = [
+        said = [
             f"step {number}: the SIGTERM of 1 outside to 3 was lost: "
             "one was pending since step 3: 2 kill 3 TERM"
             for number in (4, 5)
         ]
-        self.assertEqual(reported(kills)[4], told)
+        self.assertEqual(reported(kills)[4], said)
 
     def test_a_sigpipe_that_is_pending(self):
         steps = (
             "2 sigaction PIPE catch 1 -\n2 map 0\n2 pipe 0 0 1\n2 close 0\n"
             "2 write 1 0 1  # = ok -32  # 5 write\n2 write 1 0 1  # = ok -32  # 6 write\n"
         )
-        told = [
+        said = [
             "step 6, line 6 of the log: the SIGPIPE of 2 to 2 was lost: "
             "one was pending since step 5: 2 write 1 0 1"
         ]
-        self.assertEqual(reported(steps)[4], told)
+        self.assertEqual(reported(steps)[4], said)
 
     def test_what_is_not_lost(self):
         for steps in (
@@ -481,9 +481,9 @@ class Command(unittest.TestCase):
             file = os.path.join(folder, "recording")
             with open(file, "w", encoding="utf-8") as it:
                 it.write(text)
-            with redirect_stdout(io.StringIO()) as output, redirect_stderr(io.StringIO()) as told:
+            with redirect_stdout(io.StringIO()) as output, redirect_stderr(io.StringIO()) as said:
                 status = txos.command.main(["holders", file, *words])
-        return status, output.getvalue(), told.getvalue()
+        return status, output.getvalue(), said.getvalue()
 
     def test_the_first_line_says_after_which_step(self):
         for words, first in (
@@ -491,13 +491,13 @@ class Command(unittest.TestCase):
             (("--at", "0"), "After 0 of 13 steps: sh -c x"),
             (("--at", "13"), "After 13 of 13 steps: sh -c x"),
         ):
-            status, output, told = self.holders(*words)
-            self.assertEqual((status, told), (0, ""))
+            status, output, said = self.holders(*words)
+            self.assertEqual((status, said), (0, ""))
             self.assertEqual(output.splitlines()[0], first)
 
     def test_nothing_of_each_kind_is_a_sentence(self):
         status, output, _ = self.holders(text=HEAD)
-        told = [
+        said = [
             "After 0 of 0 steps: sh -c x",
             "",
             "No pipe is open at the end of the recording.",
@@ -508,12 +508,12 @@ class Command(unittest.TestCase):
             "",
             "No signal was lost.",
         ]
-        self.assertEqual((status, output.splitlines()), (0, told))
+        self.assertEqual((status, output.splitlines()), (0, said))
 
     def test_a_step_that_is_not_there(self):
         for at in ("14", "-1"):
-            told = f"txos-record: --at {at}: the recording has 13 steps\n"
-            self.assertEqual(self.holders("--at", at), (1, "", told))
+            said = f"txos-record: --at {at}: the recording has 13 steps\n"
+            self.assertEqual(self.holders("--at", at), (1, "", said))
 
 
 if __name__ == "__main__":

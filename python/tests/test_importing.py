@@ -1082,10 +1082,10 @@ class Processes(Recorded):
             record("8 close(3) = 0", "8 +++ exited with 0 +++", END)
 
     def test_a_process_of_another_namespace_is_reported(self):
-        told = (
+        said = (
             "line 4: process 9 begins in the PID namespace of line 2, where it has another number"
         )
-        with self.assertRaisesRegex(Fault, told):
+        with self.assertRaisesRegex(Fault, said):
             record(
                 "7 unshare(CLONE_NEWNS|CLONE_NEWPID) = 0",
                 "7 clone(child_stack=NULL, flags=SIGCHLD) = 1",

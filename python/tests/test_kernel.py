@@ -116,22 +116,22 @@ class Answers(unittest.TestCase):
 
     def test_a_refused_step_changes_nothing(self):
         self.steps("2 sys_xbegin")
-        with self.assertRaises(Refused) as told:
+        with self.assertRaises(Refused) as raised:
             self.kernel.step("1 waitpid 2 nohang")
-        refused = told.exception
+        refused = raised.exception
         self.assertEqual((refused.code, refused.holder), ("N8", 2))
         self.assertEqual(str(refused), "1 waitpid 2 nohang: no N8 2")
-        with self.assertRaises(Refused) as told:
+        with self.assertRaises(Refused) as raised:
             self.kernel.step("5 getpid")
-        refused = told.exception
+        refused = raised.exception
         self.assertEqual((refused.code, refused.holder, refused.step), ("N1", None, "5 getpid"))
         self.assertEqual(str(refused), "5 getpid: no N1")
         self.assertEqual(self.kernel.position, 1)
 
-    def test_a_line_that_is_none_is_told(self):
-        with self.assertRaises(BadLine) as told:
+    def test_a_line_that_is_none_is_reported(self):
+        with self.assertRaises(BadLine) as raised:
             self.kernel.step("2 stroe 0 41")
-        error = told.exception
+        error = raised.exception
         self.assertEqual((error.line, error.column), ("2 stroe 0 41", 3))
         self.assertEqual(error.told, "no such call: stroe; did you mean store?")
         self.assertIsInstance(error, ValueError)
@@ -266,9 +266,9 @@ class Answers(unittest.TestCase):
             self.kernel.step("1 waitpid 2 nohang")
         self.assertEqual(self.kernel.why().splitlines(), lines)
         self.assertTrue(self.kernel.explain("N9").startswith("N9: "))
-        with self.assertRaises(BadLine) as told:
+        with self.assertRaises(BadLine) as raised:
             self.kernel.explain("nothing-such")
-        self.assertIsNone(told.exception.column)
+        self.assertIsNone(raised.exception.column)
 
     def test_the_step_that_changed_a_piece(self):
         self.steps("2 map 0", "2 getpid", "2 store 0 01", "1 getpid")
@@ -304,9 +304,9 @@ class Answers(unittest.TestCase):
         self.assertEqual(self.kernel.ask("goto end"), {"at": 2, "lines": ["at 2"]})
         self.assertEqual(self.kernel.ask("5 getpid"), {"refused": "N1"})
         self.assertEqual(self.kernel.ask("# nothing"), {})
-        with self.assertRaises(ShellEnded) as told:
+        with self.assertRaises(ShellEnded) as raised:
             self.kernel.ask("quit")
-        self.assertEqual((told.exception.status, told.exception.fault), (0, ""))
+        self.assertEqual((raised.exception.status, raised.exception.fault), (0, ""))
 
 
 class Ends(unittest.TestCase):
@@ -328,13 +328,13 @@ class Ends(unittest.TestCase):
         """How a program that does as the lines say has ended, when a step is to be made."""
         self.write("read -r line", *lines)
         kernel = Kernel(program=self.program)
-        with self.assertRaises(ShellEnded) as told:
+        with self.assertRaises(ShellEnded) as raised:
             kernel.step("2 getpid")
         with self.assertRaises(ShellEnded) as again:
             kernel.step("2 getpid")
-        self.assertEqual(str(told.exception), str(again.exception))
-        self.assertIsInstance(told.exception, TxosError)
-        return told.exception
+        self.assertEqual(str(raised.exception), str(again.exception))
+        self.assertIsInstance(raised.exception, TxosError)
+        return raised.exception
 
     def test_a_closed_program_is_gone(self):
         with Kernel() as kernel:
@@ -343,9 +343,9 @@ class Ends(unittest.TestCase):
             self.assertNotEqual(os.getpgid(pid), os.getpgrp())  # no ^C comes to it
         self.assertFalse(os.path.exists(f"/proc/{pid}"))
         kernel.close()
-        with self.assertRaises(ShellEnded) as told:
+        with self.assertRaises(ShellEnded) as raised:
             kernel.step("2 getpid")
-        self.assertEqual(str(told.exception), "txos ended with status 0")
+        self.assertEqual(str(raised.exception), "txos ended with status 0")
 
     def test_the_program_ends(self):
         error = self.ended("echo 'txos: F6' >&2", "exit 1")
@@ -358,14 +358,14 @@ class Ends(unittest.TestCase):
         self.write("exit 3")
         kernel = Kernel(program=self.program)
         kernel._process.wait()
-        with self.assertRaises(ShellEnded) as told:
+        with self.assertRaises(ShellEnded) as raised:
             kernel.step(f"2 store 0 {'0' * 100000}")
-        self.assertEqual(told.exception.status, 3)
+        self.assertEqual(raised.exception.status, 3)
 
     def test_a_program_without_such_a_shell(self):
-        with self.assertRaises(ShellEnded) as told:
+        with self.assertRaises(ShellEnded) as raised:
             Kernel(program="/bin/false")
-        self.assertEqual(told.exception.status, 1)
+        self.assertEqual(raised.exception.status, 1)
 
     def test_an_answer_that_is_broken_off(self):
         self.write("read -r line", "read -r line")
@@ -379,14 +379,14 @@ class Ends(unittest.TestCase):
         with self.assertRaises(ShellEnded):
             kernel.step("2 getpid")
 
-    def test_what_is_told_first_is_handed_on(self):
+    def test_what_is_reported_first_is_handed_on(self):
         self.write("read -r line")
         with open(self.program, encoding="utf-8") as file:
             text = file.read()
         with open(self.program, "w", encoding="utf-8") as file:
             file.write(text.replace("read", "echo 'an unproved run' >&2; read", 1))
-        with redirect_stderr(StringIO()) as told, Kernel(program=self.program):
-            self.assertEqual(told.getvalue(), "an unproved run\n")
+        with redirect_stderr(StringIO()) as said, Kernel(program=self.program):
+            self.assertEqual(said.getvalue(), "an unproved run\n")
 
 
 class Names(unittest.TestCase):
@@ -418,9 +418,9 @@ class Names(unittest.TestCase):
 
     def test_a_name_that_is_none(self):
         kernel = self.kernel('{"error":"column 8: a/b: a name has 1 to 16 letters"}')
-        with self.assertRaises(BadLine) as told:
+        with self.assertRaises(BadLine) as raised:
             kernel.name(4, "a/b")
-        self.assertEqual(told.exception.column, 8)
+        self.assertEqual(raised.exception.column, 8)
         with self.assertRaises(BadLine):
             kernel.name(4, "tr\n2 getpid")
 
@@ -511,31 +511,31 @@ class Finds(unittest.TestCase):
         self.assertEqual(self.found("prefix/share/python3/dist-packages/txos"), self.on_path)
         self.assertEqual(self.found("other/lib/python3/dist-packages/txos"), self.on_path)
 
-    def test_no_program_is_told(self):
+    def test_no_program_is_reported(self):
         self.on_path.unlink()
-        with self.assertRaises(NoProgram) as told:
+        with self.assertRaises(NoProgram) as raised:
             self.found()
-        self.assertIsInstance(told.exception, FileNotFoundError)
+        self.assertIsInstance(raised.exception, FileNotFoundError)
         sentence = "the program txos is not found: set TXOS to its path, or put it on the PATH"
-        self.assertEqual(str(told.exception), sentence)
+        self.assertEqual(str(raised.exception), sentence)
 
-    def test_a_name_that_is_no_program_is_told(self):
+    def test_a_name_that_is_no_program_is_reported(self):
         text = self.make_program("text")
         text.chmod(0o600)
         for named in (text, self.folder, "/nowhere/txos"):
-            with self.assertRaises(NoProgram) as told:
+            with self.assertRaises(NoProgram) as raised:
                 Kernel(program=named)
-            self.assertEqual(str(told.exception), f"{named} is not a program that can be run")
+            self.assertEqual(str(raised.exception), f"{named} is not a program that can be run")
         with mock.patch.dict(os.environ, {"TXOS": "/nowhere/txos"}):
-            with self.assertRaises(NoProgram) as told:
+            with self.assertRaises(NoProgram) as raised:
                 Kernel()
 
-    def test_a_program_that_cannot_be_started_is_told(self):
+    def test_a_program_that_cannot_be_started_is_reported(self):
         for text, reason in (("?", "Exec format error"), ("#!/nowhere/sh\n", "No such file")):
             program = self.make_program("odd", text)
-            with self.assertRaises(NoProgram) as told:
+            with self.assertRaises(NoProgram) as raised:
                 Kernel(program=program)
-            self.assertIn(f"{program} can't be started: {reason}", str(told.exception))
+            self.assertIn(f"{program} can't be started: {reason}", str(raised.exception))
 
 
 def load_tests(loader, tests, pattern):

@@ -544,9 +544,9 @@ class Choices(unittest.TestCase):
         with replayed(SETUP + "2 pipe 0 0 1  # = ok 0  # 7 pipe2\n" + pairs) as replay:
             with self.assertRaises(Fault) as error:
                 choose_part(replay, Part(50, 305, False))
-            told = str(error.exception)
-            self.assertIn("the steps 50 to 305 need more than the 200 steps", told)
-            last = int(told.split("--to ")[1].split()[0])
+            said = str(error.exception)
+            self.assertIn("the steps 50 to 305 need more than the 200 steps", said)
+            last = int(said.split("--to ")[1].split()[0])
             choice = choose_part(replay, Part(50, last, False))
             self.assert_drawn(replay, choice)
             self.assertEqual(choice.shown[0], 50)
@@ -585,16 +585,16 @@ class Command(unittest.TestCase):
         file = os.path.join(self.folder, "recording")
         with open(file, "w", encoding="utf-8") as it:
             it.write(HEAD + steps)
-        with redirect_stdout(io.StringIO()) as output, redirect_stderr(io.StringIO()) as told:
+        with redirect_stdout(io.StringIO()) as output, redirect_stderr(io.StringIO()) as said:
             status = txos.command.main(["picture", file, *words])
-        return status, output.getvalue(), told.getvalue()
+        return status, output.getvalue(), said.getvalue()
 
     def test_the_picture_goes_to_standard_output_or_to_a_file(self):
-        status, output, told = self.picture()
+        status, output, said = self.picture()
         self.assertEqual((status, Picture(output).root.tag), (0, f"{SVG}svg"))
-        self.assertTrue(told.startswith("txos-record: Steps 1 to 44 of 44. Left out: "), told)
+        self.assertTrue(said.startswith("txos-record: Steps 1 to 44 of 44. Left out: "), said)
         file = os.path.join(self.folder, "drawn.svg")
-        self.assertEqual(self.picture("-o", file), (0, "", told))
+        self.assertEqual(self.picture("-o", file), (0, "", said))
         with open(file, encoding="ascii") as it:
             self.assertEqual(it.read(), output)
 
@@ -608,14 +608,14 @@ class Command(unittest.TestCase):
     def test_a_fault_leaves_no_file(self):
         file = os.path.join(self.folder, "drawn.svg")
         for words in (("--from", "9", "--to", "3"), ("--to", "45"), ("--from", "0")):
-            status, output, told = self.picture("-o", file, *words)
+            status, output, said = self.picture("-o", file, *words)
             self.assertEqual((status, output), (1, ""))
-            self.assertTrue(told.startswith("txos-record: --"), told)
+            self.assertTrue(said.startswith("txos-record: --"), said)
             self.assertFalse(os.path.exists(file))
 
     def test_a_recording_of_no_steps(self):
-        status, output, told = self.picture(steps="")
-        self.assertEqual((status, Picture(output).rows(), told), (0, [], "txos-record: No step.\n"))
+        status, output, said = self.picture(steps="")
+        self.assertEqual((status, Picture(output).rows(), said), (0, [], "txos-record: No step.\n"))
 
 
 if __name__ == "__main__":

@@ -47,27 +47,27 @@ class Refused(unittest.TestCase):
 
     def test_a_command_that_is_not_there(self):
         missing = str(self.folder / "missing")
-        told = f"there is no command {missing}"
-        self.assertEqual(self.fault("-o", self.output, "--", missing), (told, 127))
+        said = f"there is no command {missing}"
+        self.assertEqual(self.fault("-o", self.output, "--", missing), (said, 127))
 
     def test_a_command_that_may_not_be_executed(self):
         program = self.program("", 0o644)
-        told = f"{program} can't be executed: its mode forbids it"
-        self.assertEqual(self.fault("-o", self.output, "--", program), (told, 126))
-        told = f"{self.folder} can't be executed: it is a folder"
-        self.assertEqual(self.fault("-o", self.output, "--", str(self.folder)), (told, 126))
+        said = f"{program} can't be executed: its mode forbids it"
+        self.assertEqual(self.fault("-o", self.output, "--", program), (said, 126))
+        said = f"{self.folder} can't be executed: it is a folder"
+        self.assertEqual(self.fault("-o", self.output, "--", str(self.folder)), (said, 126))
 
     def test_a_command_that_the_system_does_not_execute(self):
         program = self.program("#!/nowhere/sh\n", 0o755)
-        told = f"{program} can't be executed: No such file or directory"
-        self.assertEqual(self.fault("-o", self.output, "--", program), (told, 126))
+        said = f"{program} can't be executed: No such file or directory"
+        self.assertEqual(self.fault("-o", self.output, "--", program), (said, 126))
         self.assertFalse(os.path.exists(self.output))
 
     def test_an_output_that_cannot_be_written_is_reported_before_the_command_runs(self):
         done, missing = self.folder / "done", str(self.folder / "no" / "file")
         for words in (["-o", missing], ["-o", self.output, "--log", missing]):
-            told, status = self.fault(*words, "--", "touch", str(done))
-            self.assertEqual((told, status), (f"{missing}: No such file or directory", 125))
+            said, status = self.fault(*words, "--", "touch", str(done))
+            self.assertEqual((said, status), (f"{missing}: No such file or directory", 125))
             self.assertFalse(done.exists())
 
     def test_a_quit_is_for_the_command(self):

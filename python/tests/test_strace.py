@@ -95,30 +95,30 @@ class Lines(unittest.TestCase):
 
 
 class Faults(unittest.TestCase):
-    def told(self, text):
+    def report(self, text):
         with self.assertRaises(Fault) as caught:
             read_log(text.splitlines(keepends=True))
         return str(caught.exception)
 
     def test_what_is_no_log(self):
-        self.assertIn("line 1: the log is empty", self.told(""))
-        self.assertIn("line 1: this is no line of strace", self.told("hello\n"))
-        self.assertIn("line 2: this is no line of strace", self.told(f"{START}\n7 hello\n"))
+        self.assertIn("line 1: the log is empty", self.report(""))
+        self.assertIn("line 1: this is no line of strace", self.report("hello\n"))
+        self.assertIn("line 2: this is no line of strace", self.report(f"{START}\n7 hello\n"))
 
     def test_a_log_that_begins_in_the_middle(self):
         self.assertIn(
-            "line 1: the log does not begin with the execve", self.told("7 close(3) = 0\n")
+            "line 1: the log does not begin with the execve", self.report("7 close(3) = 0\n")
         )
 
     def test_a_log_that_is_cut_off(self):
-        self.assertIn("line 2: the log is cut off in this line", self.told(f"{START}\n7 close(3"))
-        self.assertIn("line 1: the log is cut off here: process 7", self.told(f"{START}\n"))
+        self.assertIn("line 2: the log is cut off in this line", self.report(f"{START}\n7 close(3"))
+        self.assertIn("line 1: the log is cut off here: process 7", self.report(f"{START}\n"))
 
     def test_a_call_that_lacks_its_start_or_its_end(self):
-        told = self.told(f"{START}\n7 <... close resumed>) = 0\n")
-        self.assertIn("line 2: close goes on here, and begins nowhere", told)
-        told = self.told(f"{START}\n7 close(3 <unfinished ...>\n7 close(4) = 0\n")
-        self.assertIn("line 3: process 7 has not ended its last call", told)
+        report = self.report(f"{START}\n7 <... close resumed>) = 0\n")
+        self.assertIn("line 2: close goes on here, and begins nowhere", report)
+        report = self.report(f"{START}\n7 close(3 <unfinished ...>\n7 close(4) = 0\n")
+        self.assertIn("line 3: process 7 has not ended its last call", report)
 
     def test_other_options(self):
         call = START[2:]
@@ -134,7 +134,7 @@ class Faults(unittest.TestCase):
             f"{START}\n7 fcntl(3, 0x2, 0x1) = 0\n": "leave -X out",
         }
         for text, wanted in options.items():
-            self.assertIn(wanted, self.told(text), text)
+            self.assertIn(wanted, self.report(text), text)
 
 
 if __name__ == "__main__":

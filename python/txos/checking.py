@@ -21,7 +21,7 @@ _ERROR = re.compile(r"ok -(\d+)")
 # What `txos expect` says of a step with another answer, and at last, where it has judged a text.
 _UNMET = re.compile(r"line (\d+): .*, got (.+?)(?: E[A-Z0-9]+)?")
 _COUNTS = re.compile(r"\d+ as expected, .*")
-_ACCEPTED = "accepted"  # is no answer, so that `txos expect` tells what the step is answered
+_ACCEPTED = "accepted"  # is no answer, so that `txos expect` says what the step is answered
 
 
 @dataclass(frozen=True)
@@ -92,11 +92,11 @@ def _unmet_by_expect(recording: Recording, program: Optional[str]) -> Optional[D
         capture_output=True,
         check=False,
     )
-    *told, counts = ran.stdout.decode("utf-8", "replace").split("\n")[:-1] or [""]
+    *unmet, counts = ran.stdout.decode("utf-8", "replace").split("\n")[:-1] or [""]
     if not _COUNTS.fullmatch(counts):
         return None
     sys.stderr.write(ran.stderr.decode("utf-8", "replace"))  # that the program is unproved
-    found = filter(None, map(_UNMET.fullmatch, told))
+    found = filter(None, map(_UNMET.fullmatch, unmet))
     return {int(it[1]) - 1: it[2] for it in found}  # the header is line 1
 
 

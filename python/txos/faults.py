@@ -1,4 +1,4 @@
-"""What the commands of this package tell their user."""
+"""What the commands of this package report to their user."""
 
 from __future__ import annotations
 

@@ -12,7 +12,7 @@ from typing import Optional
 from .faults import Fault
 
 STANDARD = "-"  # the name of standard input and output
-_BEGINNING = 4  # characters by which a recording and a picture are told from all else
+_BEGINNING = 4  # characters by which a recording and a picture are known
 _LONGEST_BEGINNING = 200
 
 

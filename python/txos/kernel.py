@@ -83,7 +83,7 @@ class BadLine(TxosError, ValueError):
     """A line is not understood, and changed nothing.
 
     `line` is what was sent, `told` what is wrong with it, and `column` where, in bytes from 1, or
-    None where that is not told.
+    None where that is not said.
     """
 
     def __init__(self, line: str, told: str, column: int | None = None) -> None:
@@ -195,7 +195,7 @@ class Moved:
     """A transaction as if all of it were done at its commit: whether it counts as one moment."""
 
     one: bool
-    steps: tuple[int, ...]  # the numbers of all steps, in the order in which they stand then
+    steps: tuple[int, ...]  # the numbers of all steps, in their order then
 
 
 @dataclass(frozen=True)
@@ -388,8 +388,8 @@ class Kernel:
             where_it_fails.callback(self.close)
             self.ask(f"txos 3 schedule {processes}")
             where_it_fails.pop_all()
-        # What is told before the first answer is no fault, but that the program is unproved.
-        sys.stderr.write(self._told())
+        # What is reported before the first answer is no fault, but that the program is unproved.
+        sys.stderr.write(self._reported())
 
     def __enter__(self) -> Kernel:
         return self
@@ -410,7 +410,7 @@ class Kernel:
         except subprocess.TimeoutExpired:
             self._process.kill()
             self._process.wait()
-        self._fault = (self._told().splitlines() or [""])[-1]
+        self._fault = (self._reported().splitlines() or [""])[-1]
         self._errors.close()
 
     @property
@@ -608,7 +608,7 @@ class Kernel:
             self._position = it.get("step", it.get("at", self._position))
         return objects
 
-    def _told(self) -> str:
+    def _reported(self) -> str:
         """What the program has written to its standard error."""
         # The place in the file is the program's too, so it is not moved.
         return os.pread(self._errors.fileno(), 1 << 16, 0).decode("utf-8", "replace")
@@ -689,11 +689,11 @@ def _encode(line: str) -> bytes:
     return line.encode("utf-8", "surrogateescape") + b"\n"
 
 
-def _error_of(line: str, told: str) -> TxosError:
-    if told.startswith("steps are ahead"):
-        return StepsAhead(told)
-    place = re.match(r"column (\d+): ", told)
-    return BadLine(line, told[place.end() :], int(place[1])) if place else BadLine(line, told)
+def _error_of(line: str, fault: str) -> TxosError:
+    if fault.startswith("steps are ahead"):
+        return StepsAhead(fault)
+    place = re.match(r"column (\d+): ", fault)
+    return BadLine(line, fault[place.end() :], int(place[1])) if place else BadLine(line, fault)
 
 
 def _read_refusal(line: str, answer: dict[str, Any]) -> Refused | None:

@@ -13,7 +13,7 @@
 
 #include "cases.h"
 
-/* What stands in a buffer that was not written. */
+/* What is in a buffer that was not written. */
 #define UNWRITTEN '\x5a'
 
 /* How much stack a thread has, which txos.h says to be enough. */

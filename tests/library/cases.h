@@ -14,7 +14,7 @@ struct txos_case {
     size_t size;
 };
 
-/* Calls the function of that name. A talk is answered in text by `shell`, and in JSON by `json`. */
+/* Calls the function of that name. A session is answered in text by `shell`, and in JSON by `json`. */
 int call(const char *function, const char *text, size_t length, char *answer, size_t room, size_t *size);
 
 /* Reads a plan, a line for each case: function, file of the text, status, file of the answer. The program ends where it

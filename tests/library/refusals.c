@@ -44,9 +44,9 @@ void __wrap_free(void *block) {
     __real_free(block);
 }
 
-/* Calls with that growth refused, and says whether the call was told so and there was such a growth, by
- * `was_told` and `was_refused`. Answers whether what came is right. */
-static int try_growth(const struct txos_case *it, char *answer, long growth, int *was_told, int *was_refused) {
+/* Calls with that growth refused, and says whether the call reported it and there was such a growth, by
+ * `was_reported` and `was_refused`. Answers whether what came is right. */
+static int try_growth(const struct txos_case *it, char *answer, long growth, int *was_reported, int *was_refused) {
     size_t size = 1;
     long before = held;
     answer[0] = '\0';
@@ -54,23 +54,23 @@ static int try_growth(const struct txos_case *it, char *answer, long growth, int
     int status = call(it->function, it->text, it->length, answer, it->size, &size);
     *was_refused = left < 0;
     left = -1;
-    *was_told = status == TXOS_NO_MEMORY;
-    int is_right = *was_told ? *was_refused && size == 0 && answer[0] == '\0'
+    *was_reported = status == TXOS_NO_MEMORY;
+    int is_right = *was_reported ? *was_refused && size == 0 && answer[0] == '\0'
                              : status == it->status && size == it->size && memcmp(answer, it->wanted, size) == 0;
     if (!is_right || held != before)
         fprintf(stderr, "FAILED: %s, growth %ld: status %d, size %zu, %ld blocks held\n", it->function, growth, status, size, held - before);
     return is_right && held == before;
 }
 
-/* Refuses each growth of a call in turn, and adds to the growths of which the call was told. Answers whether all
+/* Refuses each growth of a call in turn, and adds to the growths that the call reported. Answers whether all
  * that came is right. */
-static int try_growths(const struct txos_case *it, long *told) {
+static int try_growths(const struct txos_case *it, long *reported) {
     char *answer = malloc(it->size + 1);
     if (!answer) exit(2);
-    int is_right = 1, was_told = 0, was_refused = 1;
+    int is_right = 1, was_reported = 0, was_refused = 1;
     for (long growth = 0; is_right && was_refused; growth++) {
-        is_right = try_growth(it, answer, growth, &was_told, &was_refused);
-        *told += was_told;
+        is_right = try_growth(it, answer, growth, &was_reported, &was_refused);
+        *reported += was_reported;
     }
     free(answer);
     return is_right;
@@ -79,11 +79,11 @@ static int try_growths(const struct txos_case *it, long *told) {
 int main(int words, char **word) {
     if (words != 2) return 2;
     size_t count, failed = 0;
-    long told = 0;
+    long reported = 0;
     struct txos_case *cases = read_plan(word[1], &count);
     for (size_t number = 0; number < count; number++)
-        if (!try_growths(&cases[number], &told)) failed++;
+        if (!try_growths(&cases[number], &reported)) failed++;
     free_plan(cases, count);
-    printf("library: %ld growths refused in turn, %zu of %zu cases failed\n", told, failed, count);
-    return told > 0 && failed == 0 ? 0 : 1;
+    printf("library: %ld growths refused in turn, %zu of %zu cases failed\n", reported, failed, count);
+    return reported > 0 && failed == 0 ? 0 : 1;
 }

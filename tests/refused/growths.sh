@@ -5,7 +5,7 @@
 . "$top/tests/lib/words.sh"
 
 # Answers the text by the words of `command`, where that is set, and else by the
-# command that its name tells, with that growth refused, or with none for 0. How
+# command that its name says, with that growth refused, or with none for 0. How
 # many growths there were goes to the file `growths`.
 answer_without() {
     local words

@@ -1,6 +1,6 @@
 /* A preload for tests. It counts the growths of memory that a program asks for, refuses the one
- * whose number stands in REFUSE_AT (from 1), and says at the end, on the descriptor whose number
- * stands in REFUSE_COUNT, how many there were.
+ * whose number is in REFUSE_AT (from 1), and says at the end, on the descriptor whose number
+ * is in REFUSE_COUNT, how many there were.
  *
  * What the C library asks for as it starts a thread is passed over: that is its own, and a thread that
  * can't be started is tried elsewhere.

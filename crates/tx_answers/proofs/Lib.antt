@@ -1,4 +1,4 @@
 mod EmptyTexts
+mod ServedSoFar
 mod ShorterLines
-mod TalkedSoFar
 mod TooLong

@@ -1,4 +1,4 @@
--- What stands behind a line is shorter than the text.
+-- What follows a line is shorter than the text.
 use Rattle.std.proofs.Common.{◌≡◌, ◌<◌, ℕ, List, [], ◌∷◌, Option, Some, None, inl, inr, length, refl, ap, arith}
 use Rattle.std.proofs.lemmas.Bool.Decides.{eqb_tells}
 use Rattle.tx_lines.specs.Schedule.{after_line}
@@ -20,5 +20,5 @@ shorter_by : (text : List ℕ) (found : Option (List ℕ)) → after_line text �
 shorter_by text None after some = some
 shorter_by text (Some rest) after some = rest_shorter text rest after
 
-pub behind_shorter : (text : List ℕ) → 0 < length text → length (behind text) < length text
-behind_shorter text some = shorter_by text (after_line text) refl some
+pub shorter_after : (text : List ℕ) → 0 < length text → length (behind text) < length text
+shorter_after text some = shorter_by text (after_line text) refl some

@@ -17,7 +17,7 @@ fault_text faults.NoMemory = codes "F6"
 
 -- a fault is reported by its words; that memory was refused only by the status, also where the
 -- words want some
-abbrev pub TellsFault : Fault → Answer → Type 0
-TellsFault fault (Read text) = ⊥
-TellsFault fault (Unread text) = (fault ≢ faults.NoMemory) × (string_bytes text ≡ fault_text fault)
-TellsFault fault NoMemory = Unit {0}
+abbrev pub ReportsFault : Fault → Answer → Type 0
+ReportsFault fault (Read text) = ⊥
+ReportsFault fault (Unread text) = (fault ≢ faults.NoMemory) × (string_bytes text ≡ fault_text fault)
+ReportsFault fault NoMemory = Unit {0}

@@ -1,4 +1,4 @@
 pub mod Faults
 pub mod Handed
-pub mod Talks
+pub mod Sessions
 pub mod Texts

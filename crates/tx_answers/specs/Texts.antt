@@ -6,7 +6,7 @@ use Rattle.tx_lines.specs.declared.faults.Fault.{Fault}
 use Rattle.tx_lines.specs.declared.faults.Fault.TheVariants.{TooLong}
 use Rattle.tx_translate.specs.Meant.{IsOwnFault}
 use Rattle.tx_script.specs.Grammars.{AnswersText, Grammar}
-use Rattle.tx_answers.specs.Faults.{TellsFault}
+use Rattle.tx_answers.specs.Faults.{ReportsFault}
 use Rattle.tx_answers.specs.declared.answers.Answer.{Answer}
 use Rattle.tx_answers.specs.declared.answers.Answer.TheVariants.{NoMemory, Read, Unread}
 
@@ -22,12 +22,12 @@ IsFaultIn G text fault =
 -- what a text of a grammar is answered, or its fault
 abbrev pub IsAnswered : {A : Type 0} → Grammar A → List ℕ → Answer → Type 0
 IsAnswered G text (Read answer) = (length text ≤ 1048576) × AnswersText G text (Ok answer)
-IsAnswered G text (Unread words) = (fault : Fault) × IsFaultIn G text fault × TellsFault fault (Unread words)
+IsAnswered G text (Unread words) = (fault : Fault) × IsFaultIn G text fault × ReportsFault fault (Unread words)
 IsAnswered G text NoMemory = Unit {0}
 
 -- what a check reports of a text: nothing where it can be read, else what is wrong with it
 abbrev pub IsChecked : List ℕ → Answer → Type 0
-IsChecked text (Read told) = (length text ≤ 1048576) × (string_bytes told ≡ []) × IsReportOf text (string_bytes told)
-IsChecked text (Unread told) = (IsTooLong text × TellsFault (TooLong 0) (Unread told))
-    ⊎ ((length text ≤ 1048576) × (string_bytes told ≢ []) × IsReportOf text (string_bytes told))
+IsChecked text (Read report) = (length text ≤ 1048576) × (string_bytes report ≡ []) × IsReportOf text (string_bytes report)
+IsChecked text (Unread report) = (IsTooLong text × ReportsFault (TooLong 0) (Unread report))
+    ⊎ ((length text ≤ 1048576) × (string_bytes report ≢ []) × IsReportOf text (string_bytes report))
 IsChecked text NoMemory = Unit {0}

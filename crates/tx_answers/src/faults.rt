@@ -1,7 +1,7 @@
 //! How a fault is reported.
 ghost use Rattle.std.specs.Prelude.{◌≡◌, ◌++◌, IfOk, OnOk, string_bytes};
 ghost use Rattle.std.specs.Fmt.{decimal};
-ghost use Rattle.tx_answers.specs.Faults.{fault_text, TellsFault};
+ghost use Rattle.tx_answers.specs.Faults.{fault_text, ReportsFault};
 
 use crate::answers::Answer;
 use std::alloc::{AllocError, Global};
@@ -9,7 +9,7 @@ use tx_lines::{Fault, put, put_count};
 
 /// The answer to a text with that fault: its words, but where it is that memory was refused.
 pub fn unread(alloc: Global, fault: Fault) -> Answer
-    ensures { TellsFault fault result }
+    ensures { ReportsFault fault result }
 {
     if let Fault::NoMemory = fault {
         return Answer::NoMemory;

@@ -7,9 +7,9 @@
 
 mod answers;
 mod faults;
-mod talks;
+mod sessions;
 mod texts;
 
 pub use answers::Answer;
-pub use talks::{form_of, talked};
+pub use sessions::{form_of, served};
 pub use texts::{checked, replayed, walked};

@@ -48,8 +48,8 @@ pub fn checked(alloc: Global, text: &[u8]) -> Answer
         return unread(alloc, TOO_LONG);
     }
     match check_text(alloc, text) {
-        Ok(told) if told.is_empty() => Answer::Read(told),
-        Ok(told) => Answer::Unread(told),
+        Ok(report) if report.is_empty() => Answer::Read(report),
+        Ok(report) => Answer::Unread(report),
         Err(NoMemory) => Answer::NoMemory,
     }
 }

@@ -12,7 +12,7 @@ passes_by : {X : Type 0} (b : Bool) (x : X) (rest : Option X) → cond b (Some x
 passes_by true x rest is = cc
 passes_by false x rest is = (refl, is)
 
--- the first that passes, behind those that do not
+-- the first that passes, after those that do not
 pub found_at : (test : Topic → Bool) (topics : List Topic) (i : ℕ) (d : Topic) → i < length topics → find test (take i topics) ≡ None
     → test (get_or topics i d) ≡ true → find test topics ≡ Some (get_or topics i d)
 found_at test [] i d below before passes = absurd (omega arith)
@@ -40,7 +40,7 @@ neither : (one other : Option Topic) → option_or one other ≡ None → (one �
 neither None other is = (refl, is)
 neither (Some t) other is = cc
 
--- the first group that has one that passes, behind those that have none
+-- the first group that has one that passes, after those that have none
 pub found_in : (test : Topic → Bool) (groups : List Group) (i : ℕ) (d : Group) (topic : Topic) → i < length groups → find test (topics_in (take i groups)) ≡ None
     → find test (get_or groups i d).topics.now ≡ Some topic → find test (topics_in groups) ≡ Some topic
 found_in test [] i d topic below before found = absurd (omega arith)

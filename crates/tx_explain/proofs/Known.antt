@@ -34,19 +34,19 @@ every_number NotPermitted = refl
 every_number _ = refl
 
 -- what answers exactly where something is asked for answers to a word that is known
-pub answers : {A : Type 0} (word known : Text) (told : Option A) → is_some told ≡ is_some (asked word) → word ≡ known → is_some (asked known) ≡ true → is_some told ≡ true
-answers word known told same is asks = same ∙ ap (λ w. is_some (asked w)) is ∙ asks
+pub answers : {A : Type 0} (word known : Text) (page : Option A) → is_some page ≡ is_some (asked word) → word ≡ known → is_some (asked known) ≡ true → is_some page ≡ true
+answers word known page same is asks = same ∙ ap (λ w. is_some (asked w)) is ∙ asks
 
 some_same : (one other : Text) → Some one ≡ Some other → one ≡ other
 some_same one other is = cc
 
-page_of : (named : Option Text) (name : Text) (told : Option (Bor Text)) → is_some told ≡ is_some named → IfSome told (λ text. IfSome named (λ it. IsTrue (opens it text.now)))
-    → named ≡ Some name → is_page_of name told ≡ true
+page_of : (named : Option Text) (name : Text) (page : Option (Bor Text)) → is_some page ≡ is_some named → IfSome page (λ text. IfSome named (λ it. IsTrue (opens it text.now)))
+    → named ≡ Some name → is_page_of name page ≡ true
 page_of (Some it) name None same begins is = cc
 page_of (Some it) name (Some text) same begins is = subst (λ n. opens n text.now ≡ true) (some_same it name is) (search (rules, begins))
-page_of None name told same begins is = cc
+page_of None name page same begins is = cc
 
 -- what begins with the word that is asked for is a page about a word that is known
-pub answers_page : (word known name : Text) (told : Option (Bor Text)) → is_some told ≡ is_some (asked word)
-    → IfSome told (λ text. IfSome (asked word) (λ it. IsTrue (opens it text.now))) → word ≡ known → asked known ≡ Some name → is_page_of name told ≡ true
-answers_page word known name told same begins is named = page_of (asked word) name told same begins (ap asked is ∙ named)
+pub answers_page : (word known name : Text) (page : Option (Bor Text)) → is_some page ≡ is_some (asked word)
+    → IfSome page (λ text. IfSome (asked word) (λ it. IsTrue (opens it text.now))) → word ≡ known → asked known ≡ Some name → is_page_of name page ≡ true
+answers_page word known name page same begins is named = page_of (asked word) name page same begins (ap asked is ∙ named)

@@ -275,7 +275,7 @@ text_rows =
 
 abbrev pub notion_rows : List Row
 notion_rows =
-    row "transaction" [] "what stands as a whole, or not at all: from a sys_xbegin until the"
+    row "transaction" [] "steps that all take effect, or none: from a sys_xbegin until the"
     ∷ row "member" [] "the starter of a transaction, and each process that a member forks."
     ∷ row "starter" [] "the process that began a transaction, whose number names it."
     ∷ row "reserved" ("footprint" ∷ []) "the processes, descriptions and pipes that a member's steps read or"
@@ -304,7 +304,7 @@ all_rows =
     ∷ (codes "calls of scripts, and on the console", script_rows)
     ∷ (codes "calls of transactions", transaction_rows)
     ∷ (codes "other steps", step_rows)
-    ∷ (codes "commands of the debugger, behind the line debug, and of the shell", debugger_rows)
+    ∷ (codes "commands of the debugger, after the line debug, and of the shell", debugger_rows)
     ∷ (codes "commands of the shell alone", shell_rows)
     ∷ (codes "a process in a state", process_line_rows)
     ∷ (codes "signals of a process in a state", signal_line_rows)

@@ -57,8 +57,8 @@ abbrev pub asked : Text → Option Text
 asked word = option_map name_in (row_asked word)
 
 -- the first line of its page
-abbrev pub told : Text → Option Text
-told word = option_map (λ (row : Row). row.1) (row_asked word)
+abbrev pub line_asked : Text → Option Text
+line_asked word = option_map (λ (row : Row). row.1) (row_asked word)
 
 -- lines of printable characters, each of at most 79 columns and with its end: what is left of them
 -- from a column on

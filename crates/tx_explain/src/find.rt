@@ -7,7 +7,7 @@ ghost use Rattle.tx_base.specs.declared.errors.Errno.{Errno};
 ghost use Rattle.tx_base.specs.declared.steps.Call.{Call};
 ghost use Rattle.tx_base.specs.declared.steps.Refusal.{Refusal};
 ghost use Rattle.tx_explain.specs.Calls.{call_word, error_name, refusal_word};
-ghost use Rattle.tx_explain.specs.Topics.{asked, first_line, is_page, is_page_of, opens, spells, told, topics_in};
+ghost use Rattle.tx_explain.specs.Topics.{asked, first_line, is_page, is_page_of, line_asked, opens, spells, topics_in};
 
 use crate::topic::{Group, Topic};
 use crate::topics::groups;
@@ -21,7 +21,7 @@ pub fn explain(word: &str) -> Option<&'static str>
     ensures known { is_some result ≡ is_some (asked word.now) }
     ensures opens { IfSome result (λ text. IfSome (asked word.now) (λ name.
         IsTrue (opens name text.now))) }
-    ensures first { IfSome result (λ text. Some (first_line text.now) ≡ told word.now) }
+    ensures first { IfSome result (λ text. Some (first_line text.now) ≡ line_asked word.now) }
     ensures lines { IfSome result (λ text. IsTrue (is_page text.now)) }
     ensures calls { (call : Call) → word.now ≡ call_word call →
         is_page_of (call_word call) result ≡ true }

@@ -96,7 +96,7 @@ pub fn groups() -> [Group; 23]
             topics: steps::topics(),
         },
         Group {
-            title: "commands of the debugger, behind the line debug, and of the shell",
+            title: "commands of the debugger, after the line debug, and of the shell",
             topics: debugger::topics(),
         },
         Group {

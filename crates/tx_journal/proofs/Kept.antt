@@ -19,7 +19,7 @@ use Rattle.tx_model.specs.Membership.{Table}
 use Rattle.tx_model.specs.State.{State, boot_state}
 use Rattle.tx_model.specs.View.{View, view}
 
--- the room of a session, told by its machine's view
+-- the room of a session, by its machine's view
 abbrev pub IsKeptSo : Content → Journal → ℕ → ℕ → Type 0
 IsKeptSo machine j width count = IsJournal (session_state machine j width count) × HasRoom (session_state machine j width count) j.live (vec_capacity j.entries) j.crossings.room
 

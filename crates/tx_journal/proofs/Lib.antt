@@ -1,5 +1,5 @@
 pub mod PostedTo
-pub mod NotesTold
+pub mod NotesTaken
 pub mod RolesKept
 pub mod NotesKept
 pub mod Aborted
@@ -20,7 +20,7 @@ pub mod Noting
 pub mod StateSpelled
 pub mod PieceSpelled
 pub mod Naming
-pub mod Telling
+pub mod MovedFound
 pub mod Trial
 pub mod Newest
 pub mod There

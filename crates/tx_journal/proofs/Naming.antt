@@ -6,7 +6,7 @@ use Rattle.std.proofs.lemmas.Option.{slice_get_cases}
 use Rattle.tx_base.specs.declared.steps.Accepted.{Accepted}
 use Rattle.tx_journal.proofs.Walked.{history_length, history_to}
 use Rattle.tx_journal.specs.Entries.{accepted_of, entry_at, history_of}
-use Rattle.tx_journal.specs.Moved.{IsMoved, Numbers, Told, entries_named, moved_at, moved_numbers, numbers_above, numbers_parted, told_by, told_in, told_of}
+use Rattle.tx_journal.specs.Moved.{IsMoved, Numbers, Moving, entries_named, moved_at, moved_numbers, numbers_above, numbers_parted, moving_by, moving_in, moving_of}
 use Rattle.tx_journal.specs.Sessions.{SessionState, start_of}
 use Rattle.tx_journal.specs.declared.entry.Entry.{Entry}
 use Rattle.tx_journal.specs.declared.moved.Moved.{Moved}
@@ -82,21 +82,21 @@ names_to entries (suc n) few = by (names_to entries n (omega (arith, few))) (sli
 names_all : (entries : List Entry) → Names (name_in entries) (history_of entries)
 names_all entries = subst (λ (es : List Entry). Names (name_in entries) (history_of es)) (take_all (length entries) entries (omega arith)) (names_to entries (length entries) (omega arith))
 
--- what is told of a commit holds of the moved history
-module _ (k : SessionState) (number : ℕ) (m : Moved) (told : moved_at (start_of k) (history_of k.entries) number ≡ Some (told_in m))
+-- what is answered for a commit holds of the moved history
+module _ (k : SessionState) (number : ℕ) (m : Moved) (answer : moved_at (start_of k) (history_of k.entries) number ≡ Some (moving_in m))
     (moments : HasMoments (start_of k) (history_of k.entries)) where
   abbrev start : State
   start = start_of k
 
   by_role : (later : List Accepted) (e : Accepted) (earlier : List Accepted) → history_of k.entries ≡ later ++ e ∷ earlier → suc (length earlier) ≡ number → (r : Role) → role_in start e earlier ≡ r →
-      told_by r start later e earlier ≡ Some (told_in m) → IsMoved k number m
+      moving_by r start later e earlier ≡ Some (moving_in m) → IsMoved k number m
   unfolding HasMoments
   by_role later e earlier split place Outside is same = cc
   by_role later e earlier split place (Within s part) is same = cc
   by_role later e earlier split place (Commits s) is same =
-      let parts : record { numbers = reverse (moved_numbers start s later earlier); one_moment = is_one_moment start s e earlier } ≡ told_in m = cc in
+      let parts : record { numbers = reverse (moved_numbers start s later earlier); one_moment = is_one_moment start s e earlier } ≡ moving_in m = cc in
       record {
-        told = told;
+        answer = answer;
         starter = s;
         later = later;
         last = e;
@@ -104,24 +104,24 @@ module _ (k : SessionState) (number : ℕ) (m : Moved) (told : moved_at (start_o
         split = split;
         place = place;
         commits = is;
-        named = ap (entries_named k.entries) (sym (ap (λ (t : Told). t.numbers) parts)) ∙ map_reverse (name_in k.entries) (moved_numbers start s later earlier)
+        named = ap (entries_named k.entries) (sym (ap (λ (t : Moving). t.numbers) parts)) ∙ map_reverse (name_in k.entries) (moved_numbers start s later earlier)
             ∙ ap reverse (moved_named (name_in k.entries) start s later e earlier (subst (Names (name_in k.entries)) split (names_all k.entries)))
             ∙ sym (map_reverse Some (moved_history start s later e earlier));
-        counts = sym (ap (λ (t : Told). t.one_moment) parts);
-        moment = λ one. moments later e earlier s split is (ap (λ (t : Told). t.one_moment) parts ∙ one);
+        counts = sym (ap (λ (t : Moving). t.one_moment) parts);
+        moment = λ one. moments later e earlier s split is (ap (λ (t : Moving). t.one_moment) parts ∙ one);
       }
   by_role later e earlier split place (Aborts s status) is same = cc
 
-  by_parts : (later h : List Accepted) → history_of k.entries ≡ later ++ h → length h ≡ number → told_of start later h ≡ Some (told_in m) → IsMoved k number m
+  by_parts : (later h : List Accepted) → history_of k.entries ≡ later ++ h → length h ≡ number → moving_of start later h ≡ Some (moving_in m) → IsMoved k number m
   by_parts later h split place same = grind (arith, by_role)
 
   pub is_moved : IsMoved k number m
-  is_moved = by (nat_lt (length h) number) refl told
+  is_moved = by (nat_lt (length h) number) refl answer
     where
       h : List Accepted
       h = history_of k.entries
 
-      by : (past : Bool) → nat_lt (length h) number ≡ past → (if past then None else told_of start (take (length h - number) h) (drop (length h - number) h)) ≡ Some (told_in m) → IsMoved k number m
+      by : (past : Bool) → nat_lt (length h) number ≡ past → (if past then None else moving_of start (take (length h - number) h) (drop (length h - number) h)) ≡ Some (moving_in m) → IsMoved k number m
       by true is same = cc
       by false is same =
           let few : number ≤ length h = ltb-false (length h) number is in

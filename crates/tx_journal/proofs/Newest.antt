@@ -9,7 +9,7 @@ use Rattle.tx_model.specs.State.{Object}
 use Rattle.tx_journal.specs.declared.entry.Entry.{Entry}
 use Rattle.tx_content.specs.declared.inverse.Inverse.{Inverse}
 
--- what stands at a place
+-- what is at a place
 pub there : {X : Type 0} (xs : List X) (i : ℕ) → i < length xs → (x : X) × (slice_get xs i ≡ Some x) × (get_or xs i x ≡ x)
 there {X} xs i under = by (slice_get_cases xs i).1
   where

@@ -63,7 +63,7 @@ module _ (s : ℕ) (left earlier : List Note) (n : Note) (parts : left ≡ earli
   unfolding parted_by
   parted_other begins other = grind (arith, back_more, count)
 
-  -- whether one tells the moment
+  -- whether one reveals the moment
   abbrev silent : Bool
   silent = is_silent_by s (noted_back earlier)
 
@@ -71,9 +71,9 @@ module _ (s : ℕ) (left earlier : List Note) (n : Note) (parts : left ≡ earli
   unfolding is_silent_by
   silent_first begins =
       ap (is_silent_by s) (back_more left earlier n parts)
-      ∙ (λ j. if begins j then true else (if is_starter s (noted n).starter then not n.tells && silent else silent))
+      ∙ (λ j. if begins j then true else (if is_starter s (noted n).starter then not n.reveals && silent else silent))
 
-  pub silent_own : begins_its s (noted n) ≡ false → is_starter s (noted n).starter ≡ true → is_silent_by s (noted_back left) ≡ (not n.tells && silent)
+  pub silent_own : begins_its s (noted n) ≡ false → is_starter s (noted n).starter ≡ true → is_silent_by s (noted_back left) ≡ (not n.reveals && silent)
   unfolding is_silent_by
   silent_own begins own = grind (arith, back_more)
 

@@ -45,14 +45,14 @@ pub own_footprint : (k : Content) (parts : Parts) (own : List (Option Mark)) (s 
     length k.parts.procs ≡ (view_of k).table.width → s ≡ starter_of (view_of k).table step → ((n : ℕ) → slot_at own n ≡ own_mark s ((view_of k).table.marks n)) → map sending_of sends ≡ (present (view_of k)).held s →
     ((all : ℕ → List TheSending) → HoldsFor own step sends all → IsSetOf set (footprint (table_of parts own) step (state_of all parts))) →
     IsSetOf set (footprint (own_table (starter_of (view_of k).table step) (view_of k).table) step (present (view_of k)))
-own_footprint k parts own s step sends set state same sized starter copied held told =
+own_footprint k parts own s step sends set state same sized starter copied held found =
     let all : held_of k s ≡ map sending_of sends = ap (λ (S : State). S.held s) state ∙ sym held in
     let table : table_of parts own ≡ own_table s (view_of k).table =
     (λ j. record { width = (ap (λ (it : Parts). length it.procs) same ∙ sized) j; marks = λ n. copied n j }) in
     subst (λ (u : ℕ). IsSetOf set (footprint (own_table u (view_of k).table) step (present (view_of k)))) starter
     (subst (λ (S : State). IsSetOf set (footprint (own_table s (view_of k).table) step S)) state
     (subst (λ (t : Table). IsSetOf set (footprint t step (state_of (held_of k) parts))) table
-    (told (held_of k) (holds_own own (view_of k).table.marks s copied step sends (held_of k) all))))
+    (found (held_of k) (holds_own own (view_of k).table.marks s copied step sends (held_of k) all))))
 
 -- the pieces of a machine's rows are of numbers that there may be
 pub within_row : (row : Row) (width n : ℕ) → IsWidth width → n < limit_of row width → n < limit_of row 256

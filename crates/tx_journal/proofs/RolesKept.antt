@@ -1,4 +1,4 @@
--- The recorded reply of a step tells of it what its first reply told on the view before it.
+-- The recorded reply of a step says of it what its first reply said on the view before it.
 use Rattle.std.proofs.Common.{◌≡◌, ℕ, Bool, true, Option, refl, arith}
 use Rattle.tx_base.specs.declared.marks.Mark.{Mark}
 use Rattle.tx_base.specs.declared.steps.Refusal.{Refusal}

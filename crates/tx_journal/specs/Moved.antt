@@ -39,27 +39,27 @@ abbrev pub moved_numbers : State → ℕ → List Accepted → List Accepted →
 moved_numbers S s later h = numbers_above (suc (length h)) (length later) ++ suc (length h) ∷ (numbers_parted S s h).own ++ (numbers_parted S s h).others
 
 -- what is answered for a step that commits: the numbers, the oldest first, and whether the transaction may count as one moment
-pub record Told : Type 0 where
+pub record Moving : Type 0 where
   pub numbers : List ℕ
   pub one_moment : Bool
 
-abbrev pub told_by : Role → State → List Accepted → Accepted → List Accepted → Option Told
-told_by Outside S later e h = None
-told_by (Within s progress) S later e h = None
-told_by (Commits s) S later e h = Some (record { numbers = reverse (moved_numbers S s later h); one_moment = is_one_moment S s e h })
-told_by (Aborts s status) S later e h = None
+abbrev pub moving_by : Role → State → List Accepted → Accepted → List Accepted → Option Moving
+moving_by Outside S later e h = None
+moving_by (Within s progress) S later e h = None
+moving_by (Commits s) S later e h = Some (record { numbers = reverse (moved_numbers S s later h); one_moment = is_one_moment S s e h })
+moving_by (Aborts s status) S later e h = None
 
-abbrev pub told_of : State → List Accepted → List Accepted → Option Told
-told_of S later [] = None
-told_of S later (e ∷ h) = told_by (role_in S e h) S later e h
+abbrev pub moving_of : State → List Accepted → List Accepted → Option Moving
+moving_of S later [] = None
+moving_of S later (e ∷ h) = moving_by (role_in S e h) S later e h
 
 -- what is answered for the entry of a number; none if there is no such entry or it commits no transaction
-abbrev pub moved_at : State → List Accepted → ℕ → Option Told
-moved_at S h k = if nat_lt (length h) k then None else told_of S (take (length h - k) h) (drop (length h - k) h)
+abbrev pub moved_at : State → List Accepted → ℕ → Option Moving
+moved_at S h k = if nat_lt (length h) k then None else moving_of S (take (length h - k) h) (drop (length h - k) h)
 
 -- what an answer says
-abbrev pub told_in : Moved → Told
-told_in m = record { numbers = m.entries.items; one_moment = m.one_moment }
+abbrev pub moving_in : Moved → Moving
+moving_in m = record { numbers = m.entries.items; one_moment = m.one_moment }
 
 -- the entries that numbers name
 abbrev pub entries_named : List Entry → List ℕ → List (Option Accepted)
@@ -68,7 +68,7 @@ entries_named entries numbers = map (λ n. option_map accepted_of (entry_at entr
 -- the answer for the entry of a number that commits a transaction: the numbers name the entries of the history with its steps moved, and it
 -- says whether the transaction may count as one moment; if so, that history leaves the same, with the same replies
 pub record IsMoved (k : SessionState) (number : ℕ) (m : Moved) : Type 0 where
-  pub told : moved_at (start_of k) (history_of k.entries) number ≡ Some (told_in m)
+  pub answer : moved_at (start_of k) (history_of k.entries) number ≡ Some (moving_in m)
   pub starter : ℕ
   pub later : List Accepted
   pub last : Accepted

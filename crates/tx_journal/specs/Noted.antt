@@ -39,4 +39,4 @@ unfoldable pub is_silent_by : ℕ → List Noted → Bool
 is_silent_by s [] = true
 is_silent_by s (n ∷ ns) =
     if begins_its s n then true
-    else (if is_starter s n.starter then not n.tells && is_silent_by s ns else is_silent_by s ns)
+    else (if is_starter s n.starter then not n.reveals && is_silent_by s ns else is_silent_by s ns)

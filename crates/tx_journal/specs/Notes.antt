@@ -17,7 +17,7 @@ pub record Noted : Type 0 where
   pub starter : Option ℕ
   pub begins : Bool
   pub commits : Bool
-  pub tells : Bool
+  pub reveals : Bool
 
 -- the starter of the transaction that a step is of, by its role
 abbrev pub starter_by : Role → Option ℕ
@@ -47,9 +47,9 @@ commits_one (Commits s) = true
 commits_one (Aborts s status) = false
 
 -- whether the step shows the moment of the transaction of this starter; false if there is none
-abbrev pub tells_of : Option ℕ → State → Accepted → List Accepted → Bool
-tells_of None S e h = false
-tells_of (Some s) S e h = tells_moment S s e h
+abbrev pub reveals_of : Option ℕ → State → Accepted → List Accepted → Bool
+reveals_of None S e h = false
+reveals_of (Some s) S e h = tells_moment S s e h
 
 -- what a step of a history is to its transaction
 abbrev pub note_of : State → Accepted → List Accepted → Noted
@@ -57,12 +57,12 @@ note_of S e h = record {
   starter = starter_by (role_in S e h);
   begins = begins_one (role_in S e h);
   commits = commits_one (role_in S e h);
-  tells = tells_of (starter_by (role_in S e h)) S e h;
+  reveals = reveals_of (starter_by (role_in S e h)) S e h;
 }
 
 -- the note, with numbers in place of processes
 abbrev pub noted : Note → Noted
-noted note = record { starter = option_map number_of note.starter; begins = note.begins; commits = note.commits; tells = note.tells }
+noted note = record { starter = option_map number_of note.starter; begins = note.begins; commits = note.commits; reveals = note.reveals }
 
 -- the note says what the step is to its transaction
 abbrev pub IsNoteOf : State → Accepted → List Accepted → Note → Type 0
@@ -70,13 +70,13 @@ IsNoteOf S e h note = noted note ≡ note_of S e h
 
 -- whether a step of process p, which looks at its signals or not and with which this is posted, shows the moment of the transaction of this
 -- starter
-abbrev pub tells_by : Option ℕ → ℕ → Bool → List Sending → Bool
-tells_by None p looks ms = false
-tells_by (Some s) p looks ms = (p == s && looks) || is_sent_to s ms
+abbrev pub reveals_by : Option ℕ → ℕ → Bool → List Sending → Bool
+reveals_by None p looks ms = false
+reveals_by (Some s) p looks ms = (p == s && looks) || is_sent_to s ms
 
 -- the same as the note of a step, by its role
 abbrev pub noted_by : Role → ℕ → Bool → List Sending → Noted
-noted_by role p looks ms = record { starter = starter_by role; begins = begins_one role; commits = commits_one role; tells = tells_by (starter_by role) p looks ms }
+noted_by role p looks ms = record { starter = starter_by role; begins = begins_one role; commits = commits_one role; reveals = reveals_by (starter_by role) p looks ms }
 
 -- the note says what the step is to its transaction on the view
 abbrev pub IsNoteOn : View → Step → Note → Type 0

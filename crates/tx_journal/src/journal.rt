@@ -82,7 +82,7 @@ impl Journal {
         ensures room { vec_capacity self.new.entries ≡ vec_capacity self.old.entries }
         ensures places { self.new.crossings.room ≡ self.old.crossings.room }
     {
-        self.crossings.push(inverse); // first: behind the entry it would be moved twice
+        self.crossings.push(inverse); // first: after the entry it would be moved twice
         let step = mem::replace(step, Step::Call(Pid(0), Call::Getpid));
         match reply {
             // Most replies are such, and have few bytes.

@@ -1,7 +1,7 @@
 //! The history in which the steps of a committed transaction are together.
 ghost use Rattle.std.specs.Prelude.{◌≡◌, ◌≤◌, IfOk, None, Err, option_map};
 ghost use Rattle.tx_journal.specs.Entries.{history_of};
-ghost use Rattle.tx_journal.specs.Moved.{IsMoved, moved_at, told_in};
+ghost use Rattle.tx_journal.specs.Moved.{IsMoved, moved_at, moving_in};
 ghost use Rattle.tx_journal.specs.Noted.{noted_back, notes_in};
 ghost use Rattle.tx_journal.specs.Sessions.{start_of};
 ghost use Rattle.tx_journal.specs.declared.faults.MovedFault.TheVariants as fault;
@@ -40,7 +40,7 @@ impl Session {
             moved_at (start_of self.now) (history_of self.now.entries) number ≡ None }
     {
         self.is_lawful();
-        match self.told(alloc, number) {
+        match self.find_moved(alloc, number) {
             Ok(Some(moved)) => Ok(moved),
             Ok(None) => Err(MovedFault::NotCommit),
             Err(NoMemory) => Err(MovedFault::NoMemory),
@@ -49,9 +49,9 @@ impl Session {
 
     /// What `moved` answers; none if the entry of that number commits no transaction, or does not
     /// exist.
-    fn told(&self, alloc: Global, number: usize) -> Result<Option<Moved>, NoMemory>
+    fn find_moved(&self, alloc: Global, number: usize) -> Result<Option<Moved>, NoMemory>
         ensures { IfOk result (λ moved.
-            option_map told_in moved
+            option_map moving_in moved
             ≡ moved_at (start_of self.now) (history_of self.now.entries) number) }
     {
         let Some(entries) = self.journal.entries.as_slice().get(..number) else {
@@ -68,7 +68,7 @@ impl Session {
         let entries = join(alloc, self.len(), number, &parted)?;
         Ok(Some(Moved {
             entries,
-            one_moment: !last.tells && parted.silent,
+            one_moment: !last.reveals && parted.silent,
         }))
     }
 }

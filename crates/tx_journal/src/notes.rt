@@ -29,7 +29,7 @@ pub struct Note {
     pub commits: bool,
     /// Whether the step shows when that transaction is made: its starter looks at its signals, or
     /// something that is posted with the step goes to the starter.
-    pub tells: bool,
+    pub reveals: bool,
 }
 
 /// What a step is to its transaction. None if its process does not run. It takes no memory.
@@ -82,7 +82,7 @@ fn note_of_kernel_abort(content: &Content, starter: Pid) -> Note
         starter: Some(starter),
         begins: false,
         commits: false,
-        tells: false,
+        reveals: false,
     }
 }
 
@@ -97,7 +97,7 @@ fn note_by(content: &Content, pid: Pid, role: StepRole, looks: bool, first: &Sen
         starter,
         begins: is_first(role),
         commits: is_commit(role),
-        tells: match starter {
+        reveals: match starter {
             Some(starter) => {
                 (pid == starter && looks) || is_posted_to(content, role, first, starter)
             }

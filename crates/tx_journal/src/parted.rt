@@ -53,7 +53,7 @@ pub(crate) fn part(alloc: Global, notes: &[Note], starter: Pid) -> Result<Parted
         }
         if is_by(note, starter) {
             parted.own.push(left.len())?;
-            parted.silent = parted.silent && !note.tells;
+            parted.silent = parted.silent && !note.reveals;
         } else {
             parted.others.push(left.len())?;
         }

@@ -64,7 +64,7 @@ impl Session {
 
     /// Makes a step as `step_into` does, and moves it into its entry if it is accepted: for a
     /// caller that no longer needs it, since a step is large too. A refused step stays where it is.
-    #[inline(always)] // a call of its own would cost each line of a talk its arguments
+    #[inline(always)] // a call of its own would cost each line of a session its arguments
     pub fn enter(&mut self, alloc: Global, worker: u16, step: &mut Step, reply: &mut Reply)
         requires { IsAtEnd self.old }
         ensures answer { (reply.new ≡ No Refusal.NoMemory)

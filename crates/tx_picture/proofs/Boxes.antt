@@ -151,5 +151,5 @@ none_left s None is = refl
 none_left s (Some m) is = rw (eq-eqb m.starter.0 s (ap (number_or 0) is)) refl
 
 pub ended_have_no_members : EndedHaveNoMembers
-ended_have_no_members V step s p aborted (commits undelivered is told) member = after_role V step p (Commits s) is ∙ none_left s (V.table.marks p) member
-ended_have_no_members V step s p aborted (aborts status told is answered) member = after_role V step p (Aborts s status) is ∙ none_left s (V.table.marks p) member
+ended_have_no_members V step s p aborted (commits undelivered is reported) member = after_role V step p (Commits s) is ∙ none_left s (V.table.marks p) member
+ended_have_no_members V step s p aborted (aborts status reported is answered) member = after_role V step p (Aborts s status) is ∙ none_left s (V.table.marks p) member

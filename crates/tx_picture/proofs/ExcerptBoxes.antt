@@ -89,7 +89,7 @@ at_top b p (span ∷ spans) = by (is_span_after b span) (is_at_top p (span_after
     by false top e f rest =
         ap (box_at_top p) (after_out b span spans e) ∙ rest ∙ sym (under_cons b p span spans (ap (λ (c : Bool). c && is_at_top p (span_after b span)) e))
 
--- Steps behind so many rows leave them as they are
+-- Steps after so many rows leave them as they are
 
 none_reaches : (b : ℕ) (end : Option End) → is_none end ≡ true → reaches_past b end ≡ true
 none_reaches b None is = refl

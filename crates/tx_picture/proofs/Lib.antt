@@ -1,3 +1,4 @@
+pub mod Answered
 pub mod Boxes
 pub mod DrawnSteps
 pub mod ExcerptBoxes
@@ -12,5 +13,4 @@ pub mod PictureFormed
 pub mod Pictured
 pub mod Settled
 pub mod Tallies
-pub mod Told
 pub mod WellFormed

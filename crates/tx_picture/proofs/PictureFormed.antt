@@ -153,7 +153,7 @@ rows_formed page number (row ∷ rows) = beside (row_text page number row) (rows
 
 between_value : (front back : List ℕ) (n : ℕ) → IsValue front → IsValue back → IsValue (between front n back)
 unfolding between
-between_value front back n before behind = joined front (decimal n ++ back) before (joined (decimal n) back (numeral n) behind)
+between_value front back n before rest = joined front (decimal n ++ back) before (joined (decimal n) back (numeral n) rest)
 
 size_names : List (List ℕ)
 size_names = codes "xmlns" ∷ codes "width" ∷ codes "height" ∷ codes "viewBox" ∷ []

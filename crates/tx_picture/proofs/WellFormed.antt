@@ -82,7 +82,7 @@ pub each_formed : {A : Type 0} (text : A → List ℕ) (items : List A) → ((it
 each_formed text [] formed = nothing
 each_formed text (item ∷ items) formed = beside (text item) (flat_map text items) (formed item) (each_formed text items formed)
 
--- each part of what stands in every picture
+-- each part of what is in every picture
 pub style_formed : IsContent style_text
 unfolding style_text
 style_formed = beside _ _ (words (codes "\n")) (beside _ _ (holding (codes "style") _ _ _ refl none refl (words (codes "\ntext{font:13px monospace;fill:#000}\n.number{fill:#555;text-anchor:end}\n.left{text-anchor:end}\n.starter{font-size:10px;font-weight:bold;stroke:#fff;stroke-width:3;paint-order:stroke}\n.head{font-weight:bold;text-anchor:middle;stroke:#fff;stroke-width:4;paint-order:stroke}\n.name{font-size:10px;text-anchor:middle;stroke:#fff;stroke-width:3;paint-order:stroke}\nline{stroke:#000;stroke-width:2}\n.guide{stroke:#999;stroke-width:1;stroke-dasharray:1 4}\n.end{stroke-width:3}\n.refusal{stroke-dasharray:5 3;marker-end:url(#head)}\n.signal{stroke-width:1.5;marker-end:url(#head)}\n.held{stroke-width:1.5;stroke-dasharray:2 2}\n.dropped{stroke-width:3}\n.bend{stroke-width:1.5;stroke-dasharray:8 3 2 3}\n.pipe{stroke-width:1.5;stroke-dasharray:8 3 2 3;marker-end:url(#taken)}\n.waiting,.wait{stroke-width:1.5;stroke-dasharray:0 4;stroke-linecap:round}\n.wait{marker-end:url(#awaited)}\n.accepted{fill:#000}\n.refused{fill:#fff;stroke:#000;stroke-width:2}\n.failed{fill:url(#failed);stroke:#000;stroke-width:2}\n.blank{stop-color:#fff}\n.committed{fill:url(#committed);stroke:#0072b2;stroke-width:2}\n.aborted{fill:url(#aborted);stroke:#d55e00;stroke-width:2;stroke-dasharray:6 3}\n.open{fill:#eee;stroke:#555;stroke-width:2;stroke-dasharray:2 3}\n.torn{stroke:#fff;stroke-width:4;stroke-dasharray:5 4}\n"))) (beside _ _ (holding (codes "defs") _ _ _ refl none refl (beside _ _ (holding (codes "pattern") _ _ _ refl (with_word (codes "id") (codes "committed") _ _ refl (with_word (codes "width") (codes "8") _ _ refl (with_word (codes "height") (codes "8") _ _ refl (with_word (codes "patternUnits") (codes "userSpaceOnUse") _ _ refl none)))) refl (beside _ _ (empty (codes "rect") _ _ refl (with_word (codes "width") (codes "8") _ _ refl (with_word (codes "height") (codes "8") _ _ refl (with_word (codes "fill") (codes "#e1f0fa") _ _ refl none))) refl) (empty (codes "path") _ _ refl (with_word (codes "d") (codes "M-2,2 L2,-2 M0,8 L8,0 M6,10 L10,6") _ _ refl (with_word (codes "stroke") (codes "#56b4e9") _ _ refl none)) refl))) (beside _ _ (holding (codes "pattern") _ _ _ refl (with_word (codes "id") (codes "aborted") _ _ refl (with_word (codes "width") (codes "8") _ _ refl (with_word (codes "height") (codes "8") _ _ refl (with_word (codes "patternUnits") (codes "userSpaceOnUse") _ _ refl none)))) refl (beside _ _ (empty (codes "rect") _ _ refl (with_word (codes "width") (codes "8") _ _ refl (with_word (codes "height") (codes "8") _ _ refl (with_word (codes "fill") (codes "#fdf0e3") _ _ refl none))) refl) (empty (codes "path") _ _ refl (with_word (codes "d") (codes "M-2,6 L2,10 M0,0 L8,8 M6,-2 L10,2 M-2,2 L2,-2 M0,8 L8,0 M6,10 L10,6") _ _ refl (with_word (codes "stroke") (codes "#e69f00") _ _ refl none)) refl))) (beside _ _ (holding (codes "linearGradient") _ _ _ refl (with_word (codes "id") (codes "failed") _ _ refl none) refl (beside _ _ (empty (codes "stop") _ _ refl (with_word (codes "offset") (codes "0.5") _ _ refl none) refl) (empty (codes "stop") _ _ refl (with_word (codes "class") (codes "blank") _ _ refl (with_word (codes "offset") (codes "0.5") _ _ refl none)) refl))) (beside _ _ (holding (codes "marker") _ _ _ refl (with_word (codes "id") (codes "head") _ _ refl (with_word (codes "viewBox") (codes "0 0 10 10") _ _ refl (with_word (codes "refX") (codes "9") _ _ refl (with_word (codes "refY") (codes "5") _ _ refl (with_word (codes "markerWidth") (codes "7") _ _ refl (with_word (codes "markerHeight") (codes "7") _ _ refl (with_word (codes "orient") (codes "auto") _ _ refl none))))))) refl (empty (codes "path") _ _ refl (with_word (codes "d") (codes "M0,0 L10,5 L0,10 z") _ _ refl none) refl)) (beside _ _ (holding (codes "marker") _ _ _ refl (with_word (codes "id") (codes "taken") _ _ refl (with_word (codes "viewBox") (codes "0 0 10 10") _ _ refl (with_word (codes "refX") (codes "14") _ _ refl (with_word (codes "refY") (codes "5") _ _ refl (with_word (codes "markerWidth") (codes "8") _ _ refl (with_word (codes "markerHeight") (codes "8") _ _ refl (with_word (codes "orient") (codes "auto") _ _ refl none))))))) refl (empty (codes "path") _ _ refl (with_word (codes "d") (codes "M1,1 L9,5 L1,9 z") _ _ refl (with_word (codes "fill") (codes "#fff") _ _ refl (with_word (codes "stroke") (codes "#000") _ _ refl none))) refl)) (holding (codes "marker") _ _ _ refl (with_word (codes "id") (codes "awaited") _ _ refl (with_word (codes "viewBox") (codes "0 0 6 6") _ _ refl (with_word (codes "refX") (codes "5") _ _ refl (with_word (codes "refY") (codes "3") _ _ refl (with_word (codes "markerWidth") (codes "6") _ _ refl (with_word (codes "markerHeight") (codes "6") _ _ refl (with_word (codes "orient") (codes "auto") _ _ refl none))))))) refl (empty (codes "path") _ _ refl (with_word (codes "d") (codes "M1,1 L5,3 L1,5") _ _ refl (with_word (codes "fill") (codes "none") _ _ refl (with_word (codes "stroke") (codes "#000") _ _ refl none))) refl)))))))) (empty (codes "rect") _ _ refl (with_word (codes "width") (codes "100%") _ _ refl (with_word (codes "height") (codes "100%") _ _ refl (with_word (codes "fill") (codes "#fff") _ _ refl none))) refl)))

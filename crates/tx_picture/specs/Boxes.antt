@@ -26,7 +26,7 @@ pub data Joins (V : View) (step : Step) (s p : ℕ) : Type 0 where
 -- the step ends the transaction of s, and is answered so; whether by an abort
 pub data Ends (V : View) (step : Step) (s : ℕ) : Bool → Type 0 where
   commits : (undelivered : _) → role_on V step ≡ Commits s → answer V step ≡ Committed undelivered → Ends V step s false
-  aborts : (status told : ℕ) → role_on V step ≡ Aborts s status → answer V step ≡ Aborted told → Ends V step s true
+  aborts : (status reported : ℕ) → role_on V step ≡ Aborts s status → answer V step ≡ Aborted reported → Ends V step s true
 
 -- how a step changes the transaction that process p is a member of
 abbrev pub Changes : View → Step → ℕ → Option Pid → Option Pid → Type 0

@@ -7,11 +7,11 @@ use Rattle.tx_base.specs.declared.limits.TheConstants.{DESCRIPTIONS, DESCRIPTORS
 use Rattle.tx_model.specs.State.{Description, Side, ReadSide, WriteSide}
 use Rattle.tx_lines.specs.Bytes.{bytes_text}
 use Rattle.tx_state_text.specs.Descriptors.{desc_line, descs_text, fd_line, fds_text, pipe_line, pipes_text, side_text, wait_text}
-use Rattle.tx_reads_back.specs.Told.{IsDescNumber}
-use Rattle.tx_reads_back.proofs.Bytes.{bytes_told}
-use Rattle.tx_reads_back.proofs.Fronts.{in_number, number_told, other_byte, regroup, Stops}
-use Rattle.tx_reads_back.proofs.Lines.{AreLines, lines_rank, lines_told, list_rank, list_told}
-use Rattle.tx_reads_back.proofs.Numbered.{numbered, Tells}
+use Rattle.tx_reads_back.specs.StateTexts.{IsDescNumber}
+use Rattle.tx_reads_back.proofs.Bytes.{bytes_unique}
+use Rattle.tx_reads_back.proofs.Fronts.{in_number, number_unique, other_byte, regroup, Stops}
+use Rattle.tx_reads_back.proofs.Lines.{AreLines, lines_rank, lines_unique, list_rank, list_unique}
+use Rattle.tx_reads_back.proofs.Numbered.{numbered, Determines}
 use Rattle.tx_reads_back.proofs.Ranks.{rank}
 
 fd_rest : Option ℕ → Option (List ℕ)
@@ -22,21 +22,21 @@ fd_numbered : (fd : ℕ) (x : Option ℕ) → fd_line fd x ≡ numbered (codes "
 unfolding fd_rest
 fd_numbered fd x = grind arith
 
-fd_told : (x y : Option ℕ) (R S : List ℕ) → IsDescNumber x → IsDescNumber y → Tells (fd_rest x) (fd_rest y) R S (x ≡ y)
+fd_unique : (x y : Option ℕ) (R S : List ℕ) → IsDescNumber x → IsDescNumber y → Determines (fd_rest x) (fd_rest y) R S (x ≡ y)
 unfolding fd_rest
-fd_told None None R S in_x in_y = refl
-fd_told None (Some n) R S in_x in_y = tt
-fd_told (Some m) None R S in_x in_y = tt
-fd_told (Some m) (Some n) R S in_x in_y = λ e.
-    (let told = number_told m n (10 ∷ R) (10 ∷ S) (omega arith) (omega arith) refl refl (regroup (decimal m) (10 ∷ []) R (decimal n) (10 ∷ []) S e) in
-    (ap Some told.0, ap (drop 1) told.1))
+fd_unique None None R S in_x in_y = refl
+fd_unique None (Some n) R S in_x in_y = tt
+fd_unique (Some m) None R S in_x in_y = tt
+fd_unique (Some m) (Some n) R S in_x in_y = λ e.
+    (let unique = number_unique m n (10 ∷ R) (10 ∷ S) (omega arith) (omega arith) refl refl (regroup (decimal m) (10 ∷ []) R (decimal n) (10 ∷ []) S e) in
+    (ap Some unique.0, ap (drop 1) unique.1))
 
 fd_lines : AreLines 4 (codes "fd ") fd_line fd_rest (λ x. x) IsDescNumber
-fd_lines = record { ranked = λ t. refl; spelled = fd_numbered; told = λ x y R S in_x in_y r s. fd_told x y R S in_x in_y }
+fd_lines = record { ranked = λ t. refl; spelled = fd_numbered; unique = λ x y R S in_x in_y r s. fd_unique x y R S in_x in_y }
 
-pub fds_told : (xs ys : List (Option ℕ)) (R S : List ℕ) → length xs ≡ DESCRIPTORS → length ys ≡ DESCRIPTORS → All IsDescNumber xs → All IsDescNumber ys → 4 < rank R → 4 < rank S →
+pub fds_unique : (xs ys : List (Option ℕ)) (R S : List ℕ) → length xs ≡ DESCRIPTORS → length ys ≡ DESCRIPTORS → All IsDescNumber xs → All IsDescNumber ys → 4 < rank R → 4 < rank S →
     fds_text xs ++ R ≡ fds_text ys ++ S → (xs ≡ ys) × (R ≡ S)
-fds_told = list_told fd_lines DESCRIPTORS (omega arith) None
+fds_unique = list_unique fd_lines DESCRIPTORS (omega arith) None
 
 pub fds_rank : (xs : List (Option ℕ)) (R : List ℕ) → 4 ≤ rank R → 4 ≤ rank (fds_text xs ++ R)
 fds_rank = list_rank fd_lines DESCRIPTORS (omega arith) None
@@ -57,41 +57,41 @@ desc_numbered number x = grind arith
 side_stops : (side : Side) (r : List ℕ) → Stops in_number (side_text side ++ r)
 side_stops side r = grind arith
 
-side_told : (a b : Side) (r s : List ℕ) → side_text a ++ r ≡ side_text b ++ s → (a ≡ b) × (r ≡ s)
-side_told ReadSide ReadSide r s e = (refl, ap (drop 2) e)
-side_told ReadSide WriteSide r s e = absurd (other_byte 1 e refl)
-side_told WriteSide ReadSide r s e = absurd (other_byte 1 e refl)
-side_told WriteSide WriteSide r s e = (refl, ap (drop 2) e)
+side_unique : (a b : Side) (r s : List ℕ) → side_text a ++ r ≡ side_text b ++ s → (a ≡ b) × (r ≡ s)
+side_unique ReadSide ReadSide r s e = (refl, ap (drop 2) e)
+side_unique ReadSide WriteSide r s e = absurd (other_byte 1 e refl)
+side_unique WriteSide ReadSide r s e = absurd (other_byte 1 e refl)
+side_unique WriteSide WriteSide r s e = (refl, ap (drop 2) e)
 
-wait_told : (a b : Bool) (r s : List ℕ) → wait_text a ++ r ≡ wait_text b ++ s → (a ≡ b) × (r ≡ s)
-wait_told true true r s e = (refl, ap (drop 10) e)
-wait_told true false r s e = absurd (other_byte 1 e refl)
-wait_told false true r s e = absurd (other_byte 1 e refl)
-wait_told false false r s e = (refl, ap (drop 7) e)
+wait_unique : (a b : Bool) (r s : List ℕ) → wait_text a ++ r ≡ wait_text b ++ s → (a ≡ b) × (r ≡ s)
+wait_unique true true r s e = (refl, ap (drop 10) e)
+wait_unique true false r s e = absurd (other_byte 1 e refl)
+wait_unique false true r s e = absurd (other_byte 1 e refl)
+wait_unique false false r s e = (refl, ap (drop 7) e)
 
-desc_told : (x y : Option Description) (R S : List ℕ) → IsOfPipe x → IsOfPipe y → Tells (desc_rest x) (desc_rest y) R S (x ≡ y)
+desc_unique : (x y : Option Description) (R S : List ℕ) → IsOfPipe x → IsOfPipe y → Determines (desc_rest x) (desc_rest y) R S (x ≡ y)
 unfolding desc_rest
-desc_told None None R S in_x in_y = refl
-desc_told None (Some b) R S in_x in_y = tt
-desc_told (Some a) None R S in_x in_y = tt
-desc_told (Some a) (Some b) R S in_x in_y = λ e.
+desc_unique None None R S in_x in_y = refl
+desc_unique None (Some b) R S in_x in_y = tt
+desc_unique (Some a) None R S in_x in_y = tt
+desc_unique (Some a) (Some b) R S in_x in_y = λ e.
     (let a_end : List ℕ = side_text a.side ++ wait_text a.nonblock in
     let b_end : List ℕ = side_text b.side ++ wait_text b.nonblock in
     let cut = regroup (decimal a.pipe) a_end R (decimal b.pipe) b_end S e in
-    let pipe = number_told a.pipe b.pipe (a_end ++ R) (b_end ++ S) in_x in_y
+    let pipe = number_unique a.pipe b.pipe (a_end ++ R) (b_end ++ S) in_x in_y
     (subst (Stops in_number) (sym (append_assoc (side_text a.side) (wait_text a.nonblock) R)) (side_stops a.side (wait_text a.nonblock ++ R)))
     (subst (Stops in_number) (sym (append_assoc (side_text b.side) (wait_text b.nonblock) S)) (side_stops b.side (wait_text b.nonblock ++ S))) cut in
-    let side = side_told a.side b.side (wait_text a.nonblock ++ R) (wait_text b.nonblock ++ S)
+    let side = side_unique a.side b.side (wait_text a.nonblock ++ R) (wait_text b.nonblock ++ S)
     (regroup (side_text a.side) (wait_text a.nonblock) R (side_text b.side) (wait_text b.nonblock) S pipe.1) in
-    let wait = wait_told a.nonblock b.nonblock R S side.1 in
+    let wait = wait_unique a.nonblock b.nonblock R S side.1 in
     ((λ j. Some (record { pipe = pipe.0 j; side = side.0 j; nonblock = wait.0 j })), wait.1))
 
 desc_lines : AreLines 11 (codes "desc ") desc_line desc_rest (λ x. x) IsOfPipe
-desc_lines = record { ranked = λ t. refl; spelled = desc_numbered; told = λ x y R S in_x in_y r s. desc_told x y R S in_x in_y }
+desc_lines = record { ranked = λ t. refl; spelled = desc_numbered; unique = λ x y R S in_x in_y r s. desc_unique x y R S in_x in_y }
 
-pub descs_told : (xs ys : ℕ → Option Description) (R S : List ℕ) → ((d : ℕ) → IsOfPipe (xs d)) → ((d : ℕ) → IsOfPipe (ys d)) → 11 < rank R → 11 < rank S →
+pub descs_unique : (xs ys : ℕ → Option Description) (R S : List ℕ) → ((d : ℕ) → IsOfPipe (xs d)) → ((d : ℕ) → IsOfPipe (ys d)) → 11 < rank R → 11 < rank S →
     descs_text xs ++ R ≡ descs_text ys ++ S → ((d : ℕ) → d < DESCRIPTIONS → xs d ≡ ys d) × (R ≡ S)
-descs_told xs ys R S in_x in_y = lines_told desc_lines (λ i. i) (λ i j same. same) DESCRIPTIONS (λ i inside. omega arith) xs ys R S (λ i inside. in_x i) (λ i inside. in_y i)
+descs_unique xs ys R S in_x in_y = lines_unique desc_lines (λ i. i) (λ i j same. same) DESCRIPTIONS (λ i inside. omega arith) xs ys R S (λ i inside. in_x i) (λ i inside. in_y i)
 
 pub descs_rank : (xs : ℕ → Option Description) (R : List ℕ) → 11 ≤ rank R → 11 ≤ rank (descs_text xs ++ R)
 descs_rank = lines_rank desc_lines (λ i. i) (λ i j same. same) DESCRIPTIONS (λ i inside. omega arith)
@@ -109,21 +109,21 @@ pipe_numbered : (number : ℕ) (x : Option (List ℕ)) → pipe_line number x �
 unfolding pipe_rest
 pipe_numbered number x = grind arith
 
-pipe_told : (x y : Option (List ℕ)) (R S : List ℕ) → HoldsBytes x → HoldsBytes y → Tells (pipe_rest x) (pipe_rest y) R S (x ≡ y)
+pipe_unique : (x y : Option (List ℕ)) (R S : List ℕ) → HoldsBytes x → HoldsBytes y → Determines (pipe_rest x) (pipe_rest y) R S (x ≡ y)
 unfolding pipe_rest
-pipe_told None None R S in_x in_y = refl
-pipe_told None (Some b) R S in_x in_y = tt
-pipe_told (Some a) None R S in_x in_y = tt
-pipe_told (Some a) (Some b) R S in_x in_y = λ e.
-    (let told = bytes_told a b R S in_x in_y (regroup (bytes_text a) (10 ∷ []) R (bytes_text b) (10 ∷ []) S e) in
-    (ap Some told.0, told.1))
+pipe_unique None None R S in_x in_y = refl
+pipe_unique None (Some b) R S in_x in_y = tt
+pipe_unique (Some a) None R S in_x in_y = tt
+pipe_unique (Some a) (Some b) R S in_x in_y = λ e.
+    (let unique = bytes_unique a b R S in_x in_y (regroup (bytes_text a) (10 ∷ []) R (bytes_text b) (10 ∷ []) S e) in
+    (ap Some unique.0, unique.1))
 
 pipe_lines : AreLines 12 (codes "pipe ") pipe_line pipe_rest (λ x. x) HoldsBytes
-pipe_lines = record { ranked = λ t. refl; spelled = pipe_numbered; told = λ x y R S in_x in_y r s. pipe_told x y R S in_x in_y }
+pipe_lines = record { ranked = λ t. refl; spelled = pipe_numbered; unique = λ x y R S in_x in_y r s. pipe_unique x y R S in_x in_y }
 
-pub pipes_told : (xs ys : ℕ → Option (List ℕ)) (R S : List ℕ) → ((k : ℕ) → HoldsBytes (xs k)) → ((k : ℕ) → HoldsBytes (ys k)) → 12 < rank R → 12 < rank S →
+pub pipes_unique : (xs ys : ℕ → Option (List ℕ)) (R S : List ℕ) → ((k : ℕ) → HoldsBytes (xs k)) → ((k : ℕ) → HoldsBytes (ys k)) → 12 < rank R → 12 < rank S →
     pipes_text xs ++ R ≡ pipes_text ys ++ S → ((k : ℕ) → k < PIPES → xs k ≡ ys k) × (R ≡ S)
-pipes_told xs ys R S in_x in_y = lines_told pipe_lines (λ i. i) (λ i j same. same) PIPES (λ i inside. omega arith) xs ys R S (λ i inside. in_x i) (λ i inside. in_y i)
+pipes_unique xs ys R S in_x in_y = lines_unique pipe_lines (λ i. i) (λ i j same. same) PIPES (λ i inside. omega arith) xs ys R S (λ i inside. in_x i) (λ i inside. in_y i)
 
 pub pipes_rank : (xs : ℕ → Option (List ℕ)) (R : List ℕ) → 12 ≤ rank R → 12 ≤ rank (pipes_text xs ++ R)
 pipes_rank = lines_rank pipe_lines (λ i. i) (λ i j same. same) PIPES (λ i inside. omega arith)

@@ -1,4 +1,4 @@
--- The line of an entry reads back to what it tells.
+-- The line of an entry reads back to what it says.
 use Rattle.std.proofs.Common.{◌≡◌, ◌∙◌, ◌<◌, ◌^◌, ℕ, List, [], ◌∷◌, Some, ap, arith, refl}
 use Rattle.json.proofs.Printed.Tokens.{tokens-print}
 use Rattle.json.specs.Token.{Token}

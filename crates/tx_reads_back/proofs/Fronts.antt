@@ -54,12 +54,12 @@ signed_passes : (z : ℤ) → FitsSigned w64 z → Passes in_number (signed_deci
 signed_passes z fits = grind (arith, decimal_passes)
 
 -- a number ends where no digit follows
-pub number_told : (m n : ℕ) (r s : List ℕ) → m < 2 ^ 64 → n < 2 ^ 64 → Stops in_number r → Stops in_number s → decimal m ++ r ≡ decimal n ++ s → (m ≡ n) × (r ≡ s)
-number_told m n r s m_small n_small at_r at_s e =
+pub number_unique : (m n : ℕ) (r s : List ℕ) → m < 2 ^ 64 → n < 2 ^ 64 → Stops in_number r → Stops in_number s → decimal m ++ r ≡ decimal n ++ s → (m ≡ n) × (r ≡ s)
+number_unique m n r s m_small n_small at_r at_s e =
     let parts = until in_number (decimal m) (decimal n) r s (decimal_passes m m_small) (decimal_passes n n_small) at_r at_s e in
     (decimal_injective m n m_small n_small parts.0, parts.1)
 
-pub signed_told : (y z : ℤ) (r s : List ℕ) → FitsSigned w64 y → FitsSigned w64 z → Stops in_number r → Stops in_number s → signed_decimal y ++ r ≡ signed_decimal z ++ s → (y ≡ z) × (r ≡ s)
-signed_told y z r s y_fits z_fits at_r at_s e =
+pub signed_unique : (y z : ℤ) (r s : List ℕ) → FitsSigned w64 y → FitsSigned w64 z → Stops in_number r → Stops in_number s → signed_decimal y ++ r ≡ signed_decimal z ++ s → (y ≡ z) × (r ≡ s)
+signed_unique y z r s y_fits z_fits at_r at_s e =
     let parts = until in_number (signed_decimal y) (signed_decimal z) r s (signed_passes y y_fits) (signed_passes z z_fits) at_r at_s e in
     (signed_decimal_injective y z (mag_small y y_fits) (mag_small z z_fits) parts.0, parts.1)

@@ -12,7 +12,7 @@ use Rattle.tx_reads_back.proofs.MembersRead.{list_read, IsItem}
 use Rattle.tx_reads_back.specs.ReadProcesses.{found_at, table}
 use Rattle.tx_reads_back.specs.ReadReplies.{or_else}
 use Rattle.tx_reads_back.specs.Reading.{list_in, Read}
-use Rattle.tx_reads_back.specs.ToldStates.{gathered}
+use Rattle.tx_reads_back.specs.JsonStates.{gathered}
 
 -- what is so of nothing, and of all that may be there
 pub each_there : {A : Type 0} (P : Option A → Type 0) (x : Option A) → P None → ((found : A) → x ≡ Some found → P (Some found)) → P x

@@ -8,7 +8,7 @@ use Rattle.tx_model.specs.View.{view}
 use Rattle.tx_laws.specs.Laws.{BootedIsWellFormed, LawfulViewIsSound}
 use Rattle.tx_laws.specs.WellFormed.{IsWellFormed}
 use Rattle.tx_laws.specs.WellFormedTable.{HoldsNothing, IsWellFormedWith}
-use Rattle.tx_reads_back.specs.Told.{HistoriesAreOfKernel}
+use Rattle.tx_reads_back.specs.StateTexts.{HistoriesAreOfKernel}
 
 pub histories_of_kernel : LawfulViewIsSound → BootedIsWellFormed → ((width count : ℕ) → HoldsNothing (boot_state width count)) →
     ((start : State) (history : List Accepted) (left_out : Starters) → IsWellFormed start → Lawful start history → IsWellFormed (without start left_out history)) →

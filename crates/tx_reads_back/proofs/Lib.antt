@@ -12,7 +12,7 @@ pub mod Registers
 pub mod Signals
 pub mod Processes
 pub mod Txns
-pub mod Tells
+pub mod TextsDetermine
 pub mod Histories
 pub mod Resting
 pub mod EntriesBack

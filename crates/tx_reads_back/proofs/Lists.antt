@@ -16,7 +16,7 @@ use Rattle.tx_lines.specs.Lists.{list_text, more_text}
 use Rattle.tx_lines.specs.ListedSets.{AreRising}
 use Rattle.tx_lines.specs.Sets.{bits_text, members}
 use Rattle.tx_model.specs.SignalSets.{is_in_set, is_known, is_one_of, realtime_signals, standard_signals}
-use Rattle.tx_reads_back.proofs.Fronts.{in_number, number_told, Stops}
+use Rattle.tx_reads_back.proofs.Fronts.{in_number, number_unique, Stops}
 
 -- a number is one of two lists together where it is one of either
 pub one_of_both : (xs ys : List ℕ) (k : ℕ) → is_one_of (xs ++ ys) k ≡ (is_one_of xs k || is_one_of ys k)
@@ -45,15 +45,15 @@ more_stops (n ∷ ns) r stops = refl
 no_more : (r t : List ℕ) → Stops in_list r → r ≡ 44 ∷ t → ⊥
 no_more r t stops e = grind (arith, both_ways)
 
-more_told : (ns ms r s : List ℕ) → AreSmall ns → AreSmall ms → Stops in_list r → Stops in_list s → more_text ns ++ r ≡ more_text ms ++ s → (ns ≡ ms) × (r ≡ s)
-more_told [] [] r s n_small m_small at_r at_s e = (refl, e)
-more_told [] (m ∷ ms) r s n_small m_small at_r at_s e = absurd (no_more r ((decimal m ++ more_text ms) ++ s) at_r e)
-more_told (n ∷ ns) [] r s n_small m_small at_r at_s e = absurd (no_more s ((decimal n ++ more_text ns) ++ r) at_s (sym e))
-more_told (n ∷ ns) (m ∷ ms) r s n_small m_small at_r at_s e =
+more_unique : (ns ms r s : List ℕ) → AreSmall ns → AreSmall ms → Stops in_list r → Stops in_list s → more_text ns ++ r ≡ more_text ms ++ s → (ns ≡ ms) × (r ≡ s)
+more_unique [] [] r s n_small m_small at_r at_s e = (refl, e)
+more_unique [] (m ∷ ms) r s n_small m_small at_r at_s e = absurd (no_more r ((decimal m ++ more_text ms) ++ s) at_r e)
+more_unique (n ∷ ns) [] r s n_small m_small at_r at_s e = absurd (no_more s ((decimal n ++ more_text ns) ++ r) at_s (sym e))
+more_unique (n ∷ ns) (m ∷ ms) r s n_small m_small at_r at_s e =
     let cut : decimal n ++ (more_text ns ++ r) ≡ decimal m ++ (more_text ms ++ s) =
     sym (append_assoc (decimal n) (more_text ns) r) ∙ ap (drop 1) e ∙ append_assoc (decimal m) (more_text ms) s in
-    let first = number_told n m (more_text ns ++ r) (more_text ms ++ s) n_small.0 m_small.0 (more_stops ns r at_r) (more_stops ms s at_s) cut in
-    let rest = more_told ns ms r s n_small.1 m_small.1 at_r at_s first.1 in
+    let first = number_unique n m (more_text ns ++ r) (more_text ms ++ s) n_small.0 m_small.0 (more_stops ns r at_r) (more_stops ms s at_s) cut in
+    let rest = more_unique ns ms r s n_small.1 m_small.1 at_r at_s first.1 in
     ((λ j. first.0 j ∷ rest.0 j), rest.1)
 
 -- a number begins with no sign
@@ -64,12 +64,12 @@ no_sign n r s small e =
     let first : 45 ≡ get_or (decimal n) 0 0 = ap (λ (bytes : List ℕ). get_or bytes 0 0) e ∙ get_or_append_left (decimal n) s 0 0 some in
     omega (arith, digit.0)
 
-pub list_told : (ns ms r s : List ℕ) → AreSmall ns → AreSmall ms → Stops in_list r → Stops in_list s → list_text ns ++ r ≡ list_text ms ++ s → (ns ≡ ms) × (r ≡ s)
-list_told [] [] r s n_small m_small at_r at_s e = (refl, ap (drop 1) e)
-list_told [] (m ∷ ms) r s n_small m_small at_r at_s e = absurd (no_sign m r (more_text ms ++ s) m_small.0 (e ∙ append_assoc (decimal m) (more_text ms) s))
-list_told (n ∷ ns) [] r s n_small m_small at_r at_s e = absurd (no_sign n s (more_text ns ++ r) n_small.0 (sym e ∙ append_assoc (decimal n) (more_text ns) r))
-list_told (n ∷ ns) (m ∷ ms) r s n_small m_small at_r at_s e =
-    more_told (n ∷ ns) (m ∷ ms) r s n_small m_small at_r at_s (ap (λ (bytes : List ℕ). 44 ∷ bytes) e)
+pub list_unique : (ns ms r s : List ℕ) → AreSmall ns → AreSmall ms → Stops in_list r → Stops in_list s → list_text ns ++ r ≡ list_text ms ++ s → (ns ≡ ms) × (r ≡ s)
+list_unique [] [] r s n_small m_small at_r at_s e = (refl, ap (drop 1) e)
+list_unique [] (m ∷ ms) r s n_small m_small at_r at_s e = absurd (no_sign m r (more_text ms ++ s) m_small.0 (e ∙ append_assoc (decimal m) (more_text ms) s))
+list_unique (n ∷ ns) [] r s n_small m_small at_r at_s e = absurd (no_sign n s (more_text ns ++ r) n_small.0 (sym e ∙ append_assoc (decimal n) (more_text ns) r))
+list_unique (n ∷ ns) (m ∷ ms) r s n_small m_small at_r at_s e =
+    more_unique (n ∷ ns) (m ∷ ms) r s n_small m_small at_r at_s (ap (λ (bytes : List ℕ). 44 ∷ bytes) e)
 
 rising_small : (above : ℕ) (ns : List ℕ) → AreRising above ns → AreSmall ns
 rising_small above [] rising = tt
@@ -102,7 +102,7 @@ pub known_small : (signo : ℕ) → is_known signo ≡ true → signo < 40
 unfolding all_below
 known_small signo known = one_below (standard_signals ++ realtime_signals) signo refl (one_of_both standard_signals realtime_signals signo ∙ known)
 
--- lists of those that pass tell the test
+-- lists of those that pass determine the test
 pub same_test : (p q : ℕ → Bool) (xs : List ℕ) (k : ℕ) → filter p xs ≡ filter q xs → is_one_of xs k ≡ true → p k ≡ q k
 same_test p q xs k same among = grind (arith, passes p xs k, passes q xs k, kept p xs k among, kept q xs k among)
 
@@ -120,7 +120,7 @@ same_set set other known known' same = same_from_bits set other (λ i. same_bit 
     each i = grind (arith, known i, known' i, at i)
 
 -- a set ends where no number and no comma follows
-pub set_told : (set other : ℕ) (r s : List ℕ) → IsKnownSet set → IsKnownSet other → Stops in_list r → Stops in_list s → bits_text set ++ r ≡ bits_text other ++ s → (set ≡ other) × (r ≡ s)
-set_told set other r s known known' at_r at_s e =
-    let told = list_told (members set) (members other) r s (rising_small 0 (members set) (members_rise set)) (rising_small 0 (members other) (members_rise other)) at_r at_s e in
-    (same_set set other known known' told.0, told.1)
+pub set_unique : (set other : ℕ) (r s : List ℕ) → IsKnownSet set → IsKnownSet other → Stops in_list r → Stops in_list s → bits_text set ++ r ≡ bits_text other ++ s → (set ≡ other) × (r ≡ s)
+set_unique set other r s known known' at_r at_s e =
+    let unique = list_unique (members set) (members other) r s (rising_small 0 (members set) (members_rise set)) (rising_small 0 (members other) (members_rise other)) at_r at_s e in
+    (same_set set other known known' unique.0, unique.1)

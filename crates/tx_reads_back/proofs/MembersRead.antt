@@ -26,7 +26,7 @@ module _ (name : List ℕ) where
   unfolding flag_in flag_member
   flag_in_read flag rest = rw (same_bytes name) refl
 
--- ---- one thing behind another
+-- ---- one thing after another
 
 module _ {A B : Type 0} (first : Read A) (next : A × List Token → Option B) (written : List Token) (found : A) (reads : (rest : List Token) → first (written ++ rest) ≡ Some (found, rest)) where
   pub goes_on : (more rest : List Token) → (first ((written ++ more) ++ rest) >>= next) ≡ next (found, more ++ rest)

@@ -9,11 +9,11 @@ use Rattle.tx_laws.specs.WellFormed.{IsWholePage}
 use Rattle.tx_lines.specs.Bytes.{two_digits}
 use Rattle.tx_state_text.specs.Each.{upto}
 use Rattle.tx_state_text.specs.Processes.{byte_text, flag_text, page_line, pages_text}
-use Rattle.tx_reads_back.specs.Told.{HasBytes}
-use Rattle.tx_reads_back.proofs.Bytes.{byte_told}
+use Rattle.tx_reads_back.specs.StateTexts.{HasBytes}
+use Rattle.tx_reads_back.proofs.Bytes.{byte_unique}
 use Rattle.tx_reads_back.proofs.Fronts.{other_byte, regroup, Stops}
-use Rattle.tx_reads_back.proofs.Lines.{AreLines, list_rank, list_told}
-use Rattle.tx_reads_back.proofs.Numbered.{numbered, numbered_told, Tells}
+use Rattle.tx_reads_back.proofs.Lines.{AreLines, list_rank, list_unique}
+use Rattle.tx_reads_back.proofs.Numbered.{numbered, numbered_unique, Determines}
 use Rattle.tx_reads_back.proofs.Ranks.{rank}
 use Rattle.tx_reads_back.proofs.Upto.{keeps_upto}
 
@@ -25,27 +25,27 @@ byte_numbered : (offset byte : ℕ) → byte_text offset byte ≡ numbered (32 �
 unfolding byte_rest
 byte_numbered offset byte = grind arith
 
-told_by_digits : (a b : ℕ) (R S : List ℕ) → a < 256 → b < 256 → Tells (byte_rest a) (byte_rest b) R S (a ≡ b)
+unique_by_digits : (a b : ℕ) (R S : List ℕ) → a < 256 → b < 256 → Determines (byte_rest a) (byte_rest b) R S (a ≡ b)
 unfolding byte_rest
-told_by_digits zero zero R S in_a in_b = refl
-told_by_digits zero (suc b) R S in_a in_b = tt
-told_by_digits (suc a) zero R S in_a in_b = tt
-told_by_digits (suc a) (suc b) R S in_a in_b = λ e. byte_told (suc a) (suc b) R S in_a in_b e
+unique_by_digits zero zero R S in_a in_b = refl
+unique_by_digits zero (suc b) R S in_a in_b = tt
+unique_by_digits (suc a) zero R S in_a in_b = tt
+unique_by_digits (suc a) (suc b) R S in_a in_b = λ e. byte_unique (suc a) (suc b) R S in_a in_b e
 
 -- the bytes of a page, where they are not 0
 abbrev bytes_of : List ℕ → List ℕ
 bytes_of bytes = upto (λ offset. byte_text offset (slice_index bytes offset)) 64
 
-page_bytes_told : (xs ys R S : List ℕ) → length xs ≡ PAGE_BYTES → length ys ≡ PAGE_BYTES → IsBytes xs → IsBytes ys →
+page_bytes_unique : (xs ys R S : List ℕ) → length xs ≡ PAGE_BYTES → length ys ≡ PAGE_BYTES → IsBytes xs → IsBytes ys →
     bytes_of xs ++ 10 ∷ R ≡ bytes_of ys ++ 10 ∷ S → (xs ≡ ys) × (R ≡ S)
-page_bytes_told xs ys R S x_count y_count in_x in_y e =
-    let told = numbered_told (32 ∷ []) 61 refl (λ i. i) (λ i j same. same) (λ t. Unit {0}) (λ t. tt) 64 (λ i inside. omega arith)
+page_bytes_unique xs ys R S x_count y_count in_x in_y e =
+    let unique = numbered_unique (32 ∷ []) 61 refl (λ i. i) (λ i j same. same) (λ t. Unit {0}) (λ t. tt) 64 (λ i inside. omega arith)
     (λ i. byte_rest (slice_index xs i)) (λ i. byte_rest (slice_index ys i)) (λ i. slice_index xs i ≡ slice_index ys i)
-    (λ i R S inside r s. told_by_digits (slice_index xs i) (slice_index ys i) R S (in_x i) (in_y i))
+    (λ i R S inside r s. unique_by_digits (slice_index xs i) (slice_index ys i) R S (in_x i) (in_y i))
     (λ i. byte_text i (slice_index xs i)) (λ i. byte_text i (slice_index ys i)) (10 ∷ R) (10 ∷ S)
     (λ i. byte_numbered i (slice_index xs i)) (λ i. byte_numbered i (slice_index ys i)) tt tt
     (λ t same. other_byte 0 same refl) (λ t same. other_byte 0 same refl) e in
-    (ext_get_or 0 xs ys (x_count ∙ sym y_count) (λ i below. told.0 i (omega arith)), ap (drop 1) told.1)
+    (ext_get_or 0 xs ys (x_count ∙ sym y_count) (λ i below. unique.0 i (omega arith)), ap (drop 1) unique.1)
 
 -- the byte that says of a page that it may be written
 abbrev is_writing : ℕ → Bool
@@ -69,12 +69,12 @@ flag_is : (flag : Bool) → flag_text flag ≡ 32 ∷ flag_end flag
 unfolding flag_end
 flag_is flag = grind arith
 
-flag_told : (a b : Bool) (r s : List ℕ) → Stops is_writing r → Stops is_writing s → flag_end a ++ r ≡ flag_end b ++ s → (a ≡ b) × (r ≡ s)
+flag_unique : (a b : Bool) (r s : List ℕ) → Stops is_writing r → Stops is_writing s → flag_end a ++ r ≡ flag_end b ++ s → (a ≡ b) × (r ≡ s)
 unfolding flag_end
-flag_told true true r s at_r at_s e = (refl, ap (drop 2) e)
-flag_told true false r s at_r at_s e = absurd (not_writable s r at_s (sym (ap (drop 1) e)))
-flag_told false true r s at_r at_s e = absurd (not_writable r s at_r (ap (drop 1) e))
-flag_told false false r s at_r at_s e = (refl, ap (drop 1) e)
+flag_unique true true r s at_r at_s e = (refl, ap (drop 2) e)
+flag_unique true false r s at_r at_s e = absurd (not_writable s r at_s (sym (ap (drop 1) e)))
+flag_unique false true r s at_r at_s e = absurd (not_writable r s at_r (ap (drop 1) e))
+flag_unique false false r s at_r at_s e = (refl, ap (drop 1) e)
 
 page_rest : Option PageView → Option (List ℕ)
 page_rest None = None
@@ -84,17 +84,17 @@ page_numbered : (number : ℕ) (x : Option PageView) → page_line number x ≡ 
 unfolding page_rest
 page_numbered number x = grind (arith, flag_is)
 
-page_told : (x y : Option PageView) (R S : List ℕ) → IsWholePage x → IsWholePage y → HasBytes x → HasBytes y → Tells (page_rest x) (page_rest y) R S (x ≡ y)
+page_unique : (x y : Option PageView) (R S : List ℕ) → IsWholePage x → IsWholePage y → HasBytes x → HasBytes y → Determines (page_rest x) (page_rest y) R S (x ≡ y)
 unfolding page_rest
-page_told None None R S whole_x whole_y in_x in_y = refl
-page_told None (Some b) R S whole_x whole_y in_x in_y = tt
-page_told (Some a) None R S whole_x whole_y in_x in_y = tt
-page_told (Some a) (Some b) R S whole_x whole_y in_x in_y = λ e.
+page_unique None None R S whole_x whole_y in_x in_y = refl
+page_unique None (Some b) R S whole_x whole_y in_x in_y = tt
+page_unique (Some a) None R S whole_x whole_y in_x in_y = tt
+page_unique (Some a) (Some b) R S whole_x whole_y in_x in_y = λ e.
     (let line : (bytes T : List ℕ) → (bytes_of bytes ++ 10 ∷ []) ++ T ≡ bytes_of bytes ++ 10 ∷ T = λ bytes T. append_assoc (bytes_of bytes) (10 ∷ []) T in
-    let flag = flag_told a.writable b.writable ((bytes_of a.bytes ++ 10 ∷ []) ++ R) ((bytes_of b.bytes ++ 10 ∷ []) ++ S)
+    let flag = flag_unique a.writable b.writable ((bytes_of a.bytes ++ 10 ∷ []) ++ R) ((bytes_of b.bytes ++ 10 ∷ []) ++ S)
     (subst (Stops is_writing) (sym (line a.bytes R)) (bytes_stop a.bytes R)) (subst (Stops is_writing) (sym (line b.bytes S)) (bytes_stop b.bytes S))
     (regroup (flag_end a.writable) (bytes_of a.bytes ++ 10 ∷ []) R (flag_end b.writable) (bytes_of b.bytes ++ 10 ∷ []) S e) in
-    let bytes = page_bytes_told a.bytes b.bytes R S whole_x whole_y in_x in_y (sym (line a.bytes R) ∙ flag.1 ∙ line b.bytes S) in
+    let bytes = page_bytes_unique a.bytes b.bytes R S whole_x whole_y in_x in_y (sym (line a.bytes R) ∙ flag.1 ∙ line b.bytes S) in
     ((λ j. Some (record { writable = flag.0 j; bytes = bytes.0 j })), bytes.1))
 
 -- a mapped page has 64 bytes
@@ -102,11 +102,11 @@ abbrev pub IsGoodPage : Option PageView → Type 0
 IsGoodPage x = IsWholePage x × HasBytes x
 
 page_lines : AreLines 3 (codes "page ") page_line page_rest (λ x. x) IsGoodPage
-page_lines = record { ranked = λ t. refl; spelled = page_numbered; told = λ x y R S in_x in_y r s. page_told x y R S in_x.0 in_y.0 in_x.1 in_y.1 }
+page_lines = record { ranked = λ t. refl; spelled = page_numbered; unique = λ x y R S in_x in_y r s. page_unique x y R S in_x.0 in_y.0 in_x.1 in_y.1 }
 
-pub pages_told : (xs ys : Memory) (R S : List ℕ) → length xs ≡ PAGES → length ys ≡ PAGES → All IsGoodPage xs → All IsGoodPage ys → 3 < rank R → 3 < rank S →
+pub pages_unique : (xs ys : Memory) (R S : List ℕ) → length xs ≡ PAGES → length ys ≡ PAGES → All IsGoodPage xs → All IsGoodPage ys → 3 < rank R → 3 < rank S →
     pages_text xs ++ R ≡ pages_text ys ++ S → (xs ≡ ys) × (R ≡ S)
-pages_told = list_told page_lines 16 (omega arith) None
+pages_unique = list_unique page_lines 16 (omega arith) None
 
 pub pages_rank : (xs : Memory) (R : List ℕ) → 3 ≤ rank R → 3 ≤ rank (pages_text xs ++ R)
 pages_rank = list_rank page_lines 16 (omega arith) None

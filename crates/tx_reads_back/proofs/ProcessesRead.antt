@@ -16,7 +16,7 @@ use Rattle.tx_base.specs.declared.signals.Action.TheVariants.{Usual, Ignore, Cat
 use Rattle.tx_model.specs.Memory.{page_at, Memory, PageView}
 use Rattle.tx_model.specs.State.{Frame, Process, Queued}
 use Rattle.tx_laws.specs.WellFormed.{HasActionLimits, HasFrameLimits, HasLimits, HasSizes, IsRealtimeEntry}
-use Rattle.tx_reads_back.specs.Told.{HasBytes, HasEntryWord, HasFrameWords, HasTypes, IsDescNumber, IsStatus}
+use Rattle.tx_reads_back.specs.StateTexts.{HasBytes, HasEntryWord, HasFrameWords, HasTypes, IsDescNumber, IsStatus}
 use Rattle.tx_json.specs.Descriptors.{fd_item, fds_member}
 use Rattle.tx_json.specs.Lists.{count_item, numbers_member, set_member}
 use Rattle.tx_json.specs.Members.{begin_object, count_member, end_object, flag_member, number_member, word_member}
@@ -27,7 +27,7 @@ use Rattle.tx_reads_back.proofs.Lists.{known_small, IsKnownSet}
 use Rattle.tx_reads_back.proofs.MembersRead.{count_in_read, ends_with, goes_on, goes_on_there, list_read, number_in_read, object_read, IsItem}
 use Rattle.tx_reads_back.proofs.NumbersRead.{bytes_read, count_read, number_read}
 use Rattle.tx_reads_back.proofs.SignalsRead.{count_is_item, numbers_read, set_read, IsCount}
-use Rattle.tx_reads_back.specs.ReadProcesses.{three_of, SignalsTold, action_members, actions_in, entry_members, fd_members, fds_in, frame_members, ids_in, own_in, page_members, pages_in, process_members, registers_in, set_in, signals_in, status_in, table, found_at, status_by, three_in}
+use Rattle.tx_reads_back.specs.ReadProcesses.{three_of, JsonSignals, action_members, actions_in, entry_members, fd_members, fds_in, frame_members, ids_in, own_in, page_members, pages_in, process_members, registers_in, set_in, signals_in, status_in, table, found_at, status_by, three_in}
 use Rattle.tx_reads_back.specs.Reading.{◌>>=◌, bytes_in, count_at, count_in, flag_in, list_in, number_at, number_in, object_by, word_in}
 
 -- ---- the queue
@@ -71,21 +71,21 @@ frame_is_item = record {
 -- ---- actions
 
 -- an action that is not the usual one
-abbrev told_action : Action → Option Action
-told_action Usual = None
-told_action Ignore = Some Ignore
-told_action (Catch point mask) = Some (Catch point mask)
+abbrev listed_action : Action → Option Action
+listed_action Usual = None
+listed_action Ignore = Some Ignore
+listed_action (Catch point mask) = Some (Catch point mask)
 
-told_again : (action : Action) → unwrap_or (told_action action) Usual ≡ action
-told_again action = grind arith
+listed_again : (action : Action) → unwrap_or (listed_action action) Usual ≡ action
+listed_again action = grind arith
 
-abbrev IsTold : Action → Type 0
-IsTold Usual = ⊥
-IsTold Ignore = Unit {0}
-IsTold (Catch point mask) = (point < 2 ^ 64) × IsKnownSet (bits_of mask)
+abbrev IsListed : Action → Type 0
+IsListed Usual = ⊥
+IsListed Ignore = Unit {0}
+IsListed (Catch point mask) = (point < 2 ^ 64) × IsKnownSet (bits_of mask)
 
 abbrev IsAction : ℕ × Action → Type 0
-IsAction one = (one.0 < 2 ^ 64) × IsTold one.1
+IsAction one = (one.0 < 2 ^ 64) × IsListed one.1
 
 abbrev written_action : ℕ × Action → List Token
 written_action one = action_item one.0 one.1
@@ -96,17 +96,17 @@ unfolding action_members begin_object count_at count_in count_member end_object 
 catch_read signo point mask rest signo_small point_small known =
     rw (count_read signo signo_small, count_read point point_small, append_assoc (set_member (codes "mask") (bits_of mask)) (Token.end_object ∷ []) rest, set_read (codes "mask") (bits_of mask) (Token.end_object ∷ rest) known) refl
 
-action_read : (signo : ℕ) (action : Action) (rest : List Token) → signo < 2 ^ 64 → IsTold action → object_by action_members (action_item signo action ++ rest) ≡ Some ((signo, action), rest)
+action_read : (signo : ℕ) (action : Action) (rest : List Token) → signo < 2 ^ 64 → IsListed action → object_by action_members (action_item signo action ++ rest) ≡ Some ((signo, action), rest)
 unfolding action_members begin_object count_at count_in count_member end_object object_by word_in word_member
-action_read signo Usual rest small told = absurd told
-action_read signo Ignore rest small told = rw (count_read signo small) refl
-action_read signo (Catch point mask) rest small told = catch_read signo point mask rest small told.0 told.1
+action_read signo Usual rest small listed = absurd listed
+action_read signo Ignore rest small listed = rw (count_read signo small) refl
+action_read signo (Catch point mask) rest small listed = catch_read signo point mask rest small listed.0 listed.1
 
-action_begins : (signo : ℕ) (action : Action) → IsTold action → (more : List Token) × (action_item signo action ≡ Token.begin_object ∷ more)
+action_begins : (signo : ℕ) (action : Action) → IsListed action → (more : List Token) × (action_item signo action ≡ Token.begin_object ∷ more)
 unfolding begin_object
-action_begins signo Usual told = absurd told
-action_begins signo Ignore told = (_, refl)
-action_begins signo (Catch point mask) told = (_, refl)
+action_begins signo Usual listed = absurd listed
+action_begins signo Ignore listed = (_, refl)
+action_begins signo (Catch point mask) listed = (_, refl)
 
 action_is_item : IsItem (object_by action_members) written_action IsAction
 action_is_item = record {
@@ -115,40 +115,40 @@ action_is_item = record {
   some = λ one good. let begins = action_begins one.0 one.1 good.1 in let long = ap (λ (t : List Token). length t) begins.1 in omega (arith, long);
 }
 
--- what stands by each number below a limit
+-- what is at each number below a limit
 found_all : {A : Type 0} (at : ℕ → Option A) (limit n : ℕ) → n < limit → found_at (all_numbered (λ i. i) at limit) n ≡ at n
 found_all at limit n below = found_there (λ i. i) at (λ i j same. same) limit n below
 
 module _ (actions : List Action) (long : length actions ≡ SIGNALS) (limits : All HasActionLimits actions) where
-  told_at : ℕ → Option Action
-  told_at signo = told_action (slice_index_or actions signo Usual)
+  listed_at : ℕ → Option Action
+  listed_at signo = listed_action (slice_index_or actions signo Usual)
 
-  one_action : (signo : ℕ) (action : Action) → action_item signo action ≡ or_nothing (object_by action_members) (λ n x. action_item n x) IsAction action_is_item signo (told_action action)
+  one_action : (signo : ℕ) (action : Action) → action_item signo action ≡ or_nothing (object_by action_members) (λ n x. action_item n x) IsAction action_is_item signo (listed_action action)
   one_action signo action = grind arith
 
-  IsGoodTold : ℕ → Option Action → Type 0
-  IsGoodTold signo None = Unit {0}
-  IsGoodTold signo (Some told) = IsAction (signo, told)
+  IsGoodListed : ℕ → Option Action → Type 0
+  IsGoodListed signo None = Unit {0}
+  IsGoodListed signo (Some listed) = IsAction (signo, listed)
 
-  good_told : (signo : ℕ) (action : Action) → signo < 40 → HasActionLimits action → IsGoodTold signo (told_action action)
-  unfolding IsGoodTold
-  good_told signo Usual below limits = tt
-  good_told signo Ignore below limits = (omega (arith, below), tt)
-  good_told signo (Catch point mask) below limits = let small = limits.point in (omega (arith, below), (omega (arith, small), limits.mask.known))
+  good_listed : (signo : ℕ) (action : Action) → signo < 40 → HasActionLimits action → IsGoodListed signo (listed_action action)
+  unfolding IsGoodListed
+  good_listed signo Usual below limits = tt
+  good_listed signo Ignore below limits = (omega (arith, below), tt)
+  good_listed signo (Catch point mask) below limits = let small = limits.point in (omega (arith, below), (omega (arith, small), limits.mask.known))
 
-  good_action : (signo : ℕ) (told action : Action) → signo < 40 → HasActionLimits action → told_action action ≡ Some told → IsAction (signo, told)
-  unfolding IsGoodTold
-  good_action signo told action below limits is = subst (IsGoodTold signo) is (good_told signo action below limits)
+  good_action : (signo : ℕ) (listed action : Action) → signo < 40 → HasActionLimits action → listed_action action ≡ Some listed → IsAction (signo, listed)
+  unfolding IsGoodListed
+  good_action signo listed action below limits is = subst (IsGoodListed signo) is (good_listed signo action below limits)
 
   actions_read : (rest : List Token) → actions_in (actions_member actions ++ rest) ≡ Some (actions, rest)
-  unfolding actions_in told_at
+  unfolding actions_in listed_at
   actions_read rest =
       ap (λ read. read >>= (λ (found : List (ℕ × Action) × List Token). Some (table (λ signo. unwrap_or (found_at found.0 signo) Usual) SIGNALS, found.1)))
-      (listed_read (object_by action_members) (λ n x. action_item n x) IsAction action_is_item (codes "actions") (λ n. n) told_at SIGNALS (λ signo. action_item signo (slice_index_or actions signo Usual)) rest
+      (listed_read (object_by action_members) (λ n x. action_item n x) IsAction action_is_item (codes "actions") (λ n. n) listed_at SIGNALS (λ signo. action_item signo (slice_index_or actions signo Usual)) rest
       (λ signo. one_action signo (slice_index_or actions signo Usual))
-      (λ signo told below is. good_action signo told (slice_index_or actions signo Usual) below (limits signo Usual (omega (arith, below, long))) is))
+      (λ signo listed below is. good_action signo listed (slice_index_or actions signo Usual) below (limits signo Usual (omega (arith, below, long))) is))
       ∙ ap (λ (found : List Action). Some (found, rest)) (table_whole _ actions Usual SIGNALS long
-      (λ signo below. ap (λ told. unwrap_or told Usual) (found_all told_at SIGNALS signo below) ∙ told_again (slice_index_or actions signo Usual)))
+      (λ signo below. ap (λ listed. unwrap_or listed Usual) (found_all listed_at SIGNALS signo below) ∙ listed_again (slice_index_or actions signo Usual)))
 
 -- ---- ids, pages and descriptors
 
@@ -202,8 +202,8 @@ pub good_frames : (frames : List Frame) → All HasFrameLimits frames → All Ha
 good_frames frames limits words = grind arith
 
 module _ (q : Process) (sizes : HasSizes q) (limits : HasLimits q) (types : HasTypes q) where
-  abbrev told_signals : SignalsTold
-  told_signals = record { mask = q.mask; actions = q.actions; pending = q.pending; queued = q.queued; frames = q.frames }
+  abbrev own_signals : JsonSignals
+  own_signals = record { mask = q.mask; actions = q.actions; pending = q.pending; queued = q.queued; frames = q.frames }
 
   queued_read : (rest : List Token) → list_in (codes "queued") (object_by entry_members) (queued_member q.queued ++ rest) ≡ Some (q.queued, rest)
   queued_read rest = list_read (object_by entry_members) entry_item IsEntry entry_is_item (codes "queued") q.queued rest (good_entries q.queued limits.queued types.queued)
@@ -211,7 +211,7 @@ module _ (q : Process) (sizes : HasSizes q) (limits : HasLimits q) (types : HasT
   frames_read : (rest : List Token) → list_in (codes "frames") (object_by frame_members) (frames_member q.frames ++ rest) ≡ Some (q.frames, rest)
   frames_read rest = list_read (object_by frame_members) frame_item IsFrame frame_is_item (codes "frames") q.frames rest (good_frames q.frames limits.frames types.frames)
 
-  signals_read : (rest : List Token) → signals_in (signals_members q ++ rest) ≡ Some (told_signals, rest)
+  signals_read : (rest : List Token) → signals_in (signals_members q ++ rest) ≡ Some (own_signals, rest)
   unfolding signals_in
   signals_read rest =
       goes_on (set_in (codes "mask")) _ (set_member (codes "mask") q.mask) q.mask (λ r. set_read (codes "mask") q.mask r limits.mask.known) _ rest
@@ -220,7 +220,7 @@ module _ (q : Process) (sizes : HasSizes q) (limits : HasLimits q) (types : HasT
       ∙ goes_on (list_in (codes "queued") (object_by entry_members)) _ (queued_member q.queued) q.queued queued_read _ rest
       ∙ ends_with (list_in (codes "frames") (object_by frame_members)) _ (frames_member q.frames) q.frames frames_read rest
 
-  -- ---- where it stands, and its ids
+  -- ---- where it is, and its ids
 
   registers_read : (rest : List Token) → registers_in (registers_members q.registers ++ rest) ≡ Some (q.registers, rest)
   unfolding registers_in
@@ -266,7 +266,7 @@ module _ (q : Process) (sizes : HasSizes q) (limits : HasLimits q) (types : HasT
       ∙ goes_on ids_in _ (ids_members q.ids) q.ids ids_read _ rest
       ∙ goes_on pages_in _ (pages_member q.memory) q.memory pages_read _ rest
       ∙ goes_on fds_in _ (fds_member q.descriptors) q.descriptors fds_read _ rest
-      ∙ ends_with signals_in _ (signals_members q) told_signals signals_read rest
+      ∙ ends_with signals_in _ (signals_members q) own_signals signals_read rest
 
 -- ---- how a process ended
 

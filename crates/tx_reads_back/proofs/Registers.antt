@@ -5,8 +5,8 @@ use Rattle.std.specs.Int.{w64}
 use Rattle.std.proofs.lemmas.Bool.Decides.{Decides-int_eq}
 use Rattle.tx_state_text.specs.Each.{each_text}
 use Rattle.tx_state_text.specs.Registers.{is_blank_of, slot_text, slots_end, slots_line}
-use Rattle.tx_reads_back.proofs.Fronts.{in_number, regroup, signed_told, Stops}
-use Rattle.tx_reads_back.proofs.Items.{all_told, AreItems, optional_rank, optional_told}
+use Rattle.tx_reads_back.proofs.Fronts.{in_number, regroup, signed_unique, Stops}
+use Rattle.tx_reads_back.proofs.Items.{all_unique, AreItems, optional_rank, optional_unique}
 use Rattle.tx_reads_back.proofs.Lists.{in_list}
 use Rattle.tx_reads_back.proofs.Ranks.{rank}
 
@@ -18,13 +18,13 @@ pub end_stops : (bytes : List ℕ) → EndsLine bytes → Stops in_number bytes
 end_stops bytes end = grind (arith, in_number)
 
 slots_are : AreItems slot_text (λ z. z) (FitsSigned w64) (Stops in_number) EndsLine
-slots_are = grind (arith, end_stops, signed_told)
+slots_are = grind (arith, end_stops, signed_unique)
 
-pub slots_end_told : (xs ys : List ℤ) (R S : List ℕ) → All (FitsSigned w64) xs → All (FitsSigned w64) ys → slots_end xs ++ R ≡ slots_end ys ++ S → (xs ≡ ys) × (R ≡ S)
-slots_end_told xs ys R S x_fits y_fits e =
-    let told = all_told slots_are xs ys (10 ∷ R) (10 ∷ S) x_fits y_fits refl refl
+pub slots_end_unique : (xs ys : List ℤ) (R S : List ℕ) → All (FitsSigned w64) xs → All (FitsSigned w64) ys → slots_end xs ++ R ≡ slots_end ys ++ S → (xs ≡ ys) × (R ≡ S)
+slots_end_unique xs ys R S x_fits y_fits e =
+    let unique = all_unique slots_are xs ys (10 ∷ R) (10 ∷ S) x_fits y_fits refl refl
     (regroup (each_text slot_text xs) (10 ∷ []) R (each_text slot_text ys) (10 ∷ []) S e) in
-    (told.0, ap (drop 1) told.1)
+    (unique.0, ap (drop 1) unique.1)
 
 pub slots_stop : (xs : List ℤ) (R : List ℕ) → Stops in_list (slots_end xs ++ R)
 slots_stop [] R = refl
@@ -36,11 +36,11 @@ blank_same [] (y ∷ ys) count x_blank y_blank = absurd (omega arith)
 blank_same (x ∷ xs) [] count x_blank y_blank = absurd (omega arith)
 blank_same (x ∷ xs) (y ∷ ys) count x_blank y_blank = grind (arith, Decides-int_eq, blank_same xs ys)
 
-pub slots_told : (xs ys : List ℤ) (R S : List ℕ) → length xs ≡ length ys → All (FitsSigned w64) xs → All (FitsSigned w64) ys → 2 < rank R → 2 < rank S →
+pub slots_unique : (xs ys : List ℤ) (R S : List ℕ) → length xs ≡ length ys → All (FitsSigned w64) xs → All (FitsSigned w64) ys → 2 < rank R → 2 < rank S →
     slots_line xs ++ R ≡ slots_line ys ++ S → (xs ≡ ys) × (R ≡ S)
-slots_told xs ys R S count x_fits y_fits r s e =
-    optional_told 2 (xs ≡ ys) (is_blank_of xs) (is_blank_of ys) (codes "slots" ++ slots_end xs) (codes "slots" ++ slots_end ys) R S (λ t. refl) (λ t. refl) r s
-    (blank_same xs ys count) (λ x_some y_some same. slots_end_told xs ys R S x_fits y_fits (ap (drop 5) same)) e
+slots_unique xs ys R S count x_fits y_fits r s e =
+    optional_unique 2 (xs ≡ ys) (is_blank_of xs) (is_blank_of ys) (codes "slots" ++ slots_end xs) (codes "slots" ++ slots_end ys) R S (λ t. refl) (λ t. refl) r s
+    (blank_same xs ys count) (λ x_some y_some same. slots_end_unique xs ys R S x_fits y_fits (ap (drop 5) same)) e
 
 pub slots_rank : (xs : List ℤ) (R : List ℕ) → 2 ≤ rank R → 2 ≤ rank (slots_line xs ++ R)
 slots_rank xs R r = optional_rank 2 (is_blank_of xs) (codes "slots" ++ slots_end xs) R (λ t. refl) r

@@ -16,8 +16,8 @@ use Rattle.tx_json.specs.Members.{begin_object, count_member, end_object, list_m
 use Rattle.tx_json.specs.Replies.{error_members, missed_tokens, refusal_members, reply_members}
 use Rattle.tx_reads_back.proofs.MembersRead.{list_read, IsItem}
 use Rattle.tx_reads_back.proofs.NumbersRead.{bytes_read, count_read, number_read, same_bytes}
-use Rattle.tx_reads_back.specs.ReadBack.{told_of, IsTypedMissed, IsTypedRefusal, IsTypedReply}
-use Rattle.tx_reads_back.specs.ReadReplies.{answer_in, behind_error, errors, missed_at, missed_members, numbered_by, refusal_in, reply_in, step_members}
+use Rattle.tx_reads_back.specs.ReadBack.{step_in_json, IsTypedMissed, IsTypedRefusal, IsTypedReply}
+use Rattle.tx_reads_back.specs.ReadReplies.{answer_in, after_error, errors, missed_at, missed_members, numbered_by, refusal_in, reply_in, step_members}
 use Rattle.tx_reads_back.specs.Reading.{bytes_in, count_at, count_in, list_in, number_at, number_in, object_by, whole, word_in}
 use Rattle.tx_state_text.specs.Replies.{error_name}
 
@@ -58,7 +58,7 @@ unfolding reply_in
 refused_reply refusal rest typed = grind (arith, refusal_read)
 
 -- the name of an error, where there has to be one
-name_read : (name : Option (List ℕ)) (rest : List Token) → behind_error name (error_members name ++ rest) ≡ Some rest
+name_read : (name : Option (List ℕ)) (rest : List Token) → after_error name (error_members name ++ rest) ≡ Some rest
 unfolding word_in word_member
 name_read None rest = refl
 name_read (Some name) rest = rw (same_bytes name) refl
@@ -77,7 +77,7 @@ refused : (refusal : Refusal) (number : ℕ) → IsTypedRefusal refusal → whol
 unfolding begin_object end_object object_by step_members
 refused refusal number typed = rw (refusal_read refusal (Token.end_object ∷ []) typed) refl
 
-pub step_read : (number : ℕ) (reply : Reply) → number < 2 ^ 64 → IsTypedReply reply → whole (object_by step_members (step_answer number reply)) ≡ Some (told_of number reply)
+pub step_read : (number : ℕ) (reply : Reply) → number < 2 ^ 64 → IsTypedReply reply → whole (object_by step_members (step_answer number reply)) ≡ Some (step_in_json number reply)
 unfolding answer_in begin_object bytes_in count_at count_in count_member end_object number_at number_in number_member object_by refusal_in step_members word_in word_member
 step_read number (No refusal) small typed = refused refusal number typed
 step_read number (Done ret) small typed = rw (count_read number small, number_read ret typed, name_read (error_name ret) (Token.end_object ∷ [])) refl

@@ -2,7 +2,7 @@
 use Rattle.std.proofs.Common.{◌≡◌, ℕ, Option, Some, None, refl, sym, ap, ◌∙◌}
 use Rattle.tx_base.specs.declared.names.Regs.{Regs}
 use Rattle.tx_model.specs.State.{Process, State}
-use Rattle.tx_reads_back.specs.Told.{EndedRest, IsAtRest, RestingAreSame, shown, shown_registers}
+use Rattle.tx_reads_back.specs.StateTexts.{EndedRest, IsAtRest, RestingAreSame, shown, shown_registers}
 
 resting_registers : (status : Option ℕ) (registers : Regs) → IsAtRest status registers → shown_registers status registers ≡ registers
 resting_registers None registers rests = refl

@@ -17,7 +17,7 @@ use Rattle.tx_reads_back.proofs.Lists.{known_small, one_of_both, same_bit, IsKno
 use Rattle.tx_reads_back.proofs.MembersRead.{list_read, IsItem}
 use Rattle.tx_reads_back.proofs.NumbersRead.{count_read, number_read}
 use Rattle.tx_reads_back.specs.ReadProcesses.{set_in}
-use Rattle.tx_reads_back.specs.ToldStates.{gathered}
+use Rattle.tx_reads_back.specs.JsonStates.{gathered}
 use Rattle.tx_reads_back.specs.Reading.{◌>>=◌, count_at, list_in, number_at}
 
 -- ---- lists of numbers

@@ -1,4 +1,4 @@
--- The line of a state reads back to what it tells.
+-- The line of a state reads back to what it says.
 use Rattle.std.proofs.Common.{◌∙◌, List, ap}
 use Rattle.json.proofs.Printed.Tokens.{tokens-print}
 use Rattle.json.specs.Token.{Token}

@@ -10,7 +10,7 @@ use Rattle.tx_base.specs.Signals.{bits_of}
 use Rattle.tx_base.specs.declared.limits.TheConstants.{DESCRIPTIONS, DESCRIPTORS, LAST_ID, PIPES, SIGNALS}
 use Rattle.tx_base.specs.declared.signals.Action.{Action}
 use Rattle.tx_base.specs.declared.signals.Action.TheVariants.{Usual, Ignore, Catch}
-use Rattle.tx_reads_back.specs.Told.{IsDescNumber, IsOfKernel, IsStatus}
+use Rattle.tx_reads_back.specs.StateTexts.{IsDescNumber, IsOfKernel, IsStatus}
 use Rattle.tx_laws.specs.WellFormed.{HasActionLimits}
 use Rattle.tx_model.specs.Memory.{page_at, PageView}
 use Rattle.tx_model.specs.SignalSets.{is_in_set}
@@ -28,9 +28,9 @@ use Rattle.tx_reads_back.proofs.Printable.{both, each_printable, list_printable,
 use Rattle.tx_reads_back.proofs.ProcessesRead.{good_entries, good_frames, IsEntry, IsFrame, IsKernelProcess}
 use Rattle.tx_reads_back.proofs.SignalsRead.{IsCount}
 use Rattle.tx_reads_back.proofs.Gathered.{or_nothing}
-use Rattle.tx_reads_back.proofs.StatesRead.{good_process, good_txn, is_some_of, mark_written, told_at, txn_is_item, written_txn, IsSend, IsTxn}
+use Rattle.tx_reads_back.proofs.StatesRead.{good_process, good_txn, is_some_of, mark_written, txn_at, txn_is_item, written_txn, IsSend, IsTxn}
 use Rattle.tx_reads_back.specs.Reading.{object_by}
-use Rattle.tx_reads_back.specs.ReadStates.{txn_members, TxnTold}
+use Rattle.tx_reads_back.specs.ReadStates.{txn_members, JsonTxn}
 
 -- the tokens can be printed
 record Prints (written : List Token) : Type 0 where
@@ -170,11 +170,11 @@ pipe_printed n bytes small = opens & count_printed (codes "pipe") n small & word
 held_printed : (m : Sending) → IsSend m → Prints (held_item m)
 held_printed m good = opens & count_printed (codes "target") m.target good.target & count_printed (codes "signo") m.signo good.signo & number_printed (codes "value") m.value good.value & closes
 
-txn_printed : (starter : ℕ) (told : TxnTold) → IsTxn (starter, told) → Prints (written_txn starter told)
-txn_printed starter told good =
-    let held = listed (codes "held") (each_tokens held_item told.held) (each_printed held_item IsSend held_printed told.held good.held) in
-    opens & count_printed (codes "txn") starter good.starter & flag_printed (codes "defers") told.defers
-    & (counts_printed (codes "open") told.open_parts good.open_parts & counts_printed (codes "ended") told.ended_parts good.ended_parts & held) & closes
+txn_printed : (starter : ℕ) (txn : JsonTxn) → IsTxn (starter, txn) → Prints (written_txn starter txn)
+txn_printed starter txn good =
+    let held = listed (codes "held") (each_tokens held_item txn.held) (each_printed held_item IsSend held_printed txn.held good.held) in
+    opens & count_printed (codes "txn") starter good.starter & flag_printed (codes "defers") txn.defers
+    & (counts_printed (codes "open") txn.open_parts good.open_parts & counts_printed (codes "ended") txn.ended_parts good.ended_parts & held) & closes
 
 -- what is there can be printed, and nothing else is written
 if_there : {A : Type 0} (x : Option A) (tokens : Option A → List Token) → tokens None ≡ [] → ((found : A) → x ≡ Some found → Prints (tokens (Some found))) → Prints (tokens x)
@@ -202,14 +202,14 @@ module _ (V : View) (kernel : IsOfKernel V) where
       listed (codes "pipes") (upto (λ n. pipe_item n (S.pipes n)) PIPES) (upto_printed (λ n. pipe_item n (S.pipes n)) PIPES
       (λ n below. if_there (S.pipes n) (pipe_item n) refl (λ bytes is. pipe_printed n bytes (omega (arith, below)))))
 
-  txn_there : (n : ℕ) (told : Option TxnTold) → ((found : TxnTold) → told ≡ Some found → IsTxn (n, found)) → Prints (or_nothing (object_by txn_members) written_txn IsTxn txn_is_item n told)
-  txn_there n told good = grind (arith, nothing, txn_printed)
+  txn_there : (n : ℕ) (txn : Option JsonTxn) → ((found : JsonTxn) → txn ≡ Some found → IsTxn (n, found)) → Prints (or_nothing (object_by txn_members) written_txn IsTxn txn_is_item n txn)
+  txn_there n txn good = grind (arith, nothing, txn_printed)
 
   txns_printed : Prints (txns_member V.table.width V.table.marks S.held)
   txns_printed =
       listed (codes "txns") (upto (λ done. mark_item V.table.width V.table.marks (done + 1) (S.held (done + 1)) (V.table.marks (done + 1))) V.table.width)
       (upto_printed (λ done. mark_item V.table.width V.table.marks (done + 1) (S.held (done + 1)) (V.table.marks (done + 1))) V.table.width
-      (λ n below. subst Prints (sym (mark_written V.table.width V.table.marks (n + 1) (S.held (n + 1)) (V.table.marks (n + 1)))) (txn_there (n + 1) (told_at V kernel (n + 1)) (good_txn V kernel (n + 1)))))
+      (λ n below. subst Prints (sym (mark_written V.table.width V.table.marks (n + 1) (S.held (n + 1)) (V.table.marks (n + 1)))) (txn_there (n + 1) (txn_at V kernel (n + 1)) (good_txn V kernel (n + 1)))))
 
   key_printed : Prints state_key
   unfolding ArePrintable state_key

@@ -11,7 +11,7 @@ use Rattle.hex.specs.Hex.{IsBytes}
 use Rattle.json.specs.Token.{Token}
 use Rattle.tx_base.specs.declared.limits.TheConstants.{DESCRIPTIONS, PIPES}
 use Rattle.tx_base.specs.declared.marks.Mark.{Mark}
-use Rattle.tx_reads_back.specs.Told.{unsigned, HasSentWord, IsOfKernel}
+use Rattle.tx_reads_back.specs.StateTexts.{unsigned, HasSentWord, IsOfKernel}
 use Rattle.tx_laws.specs.WellFormed.{IsHeldSending}
 use Rattle.tx_model.specs.Answer.{is_running}
 use Rattle.tx_model.specs.Membership.{is_of}
@@ -33,9 +33,9 @@ use Rattle.tx_reads_back.proofs.NumbersRead.{bytes_read, count_read, number_read
 use Rattle.tx_reads_back.proofs.ProcessesRead.{process_is_item, IsKernelProcess}
 use Rattle.tx_reads_back.proofs.SignalsRead.{count_is_item, IsCount}
 use Rattle.tx_reads_back.specs.ReadProcesses.{found_at, process_members}
-use Rattle.tx_reads_back.specs.ReadStates.{desc_members, held_members, lists_in, parts_in, pipe_members, place_members, state_members, txn_members, StateTold, TxnTold}
+use Rattle.tx_reads_back.specs.ReadStates.{desc_members, held_members, lists_in, parts_in, pipe_members, place_members, state_members, txn_members, JsonState, JsonTxn}
 use Rattle.tx_reads_back.specs.Reading.{bytes_in, count_at, count_in, flag_in, list_in, number_at, number_in, object_by, word_in}
-use Rattle.tx_reads_back.specs.ToldStates.{members_of, told_of_view, txn_of, txn_told}
+use Rattle.tx_reads_back.specs.JsonStates.{members_of, state_in_json, txn_of, txn_in_json}
 
 -- ---- descriptions and pipes
 
@@ -98,42 +98,42 @@ held_is_item = record {
   some = λ m good. omega arith;
 }
 
--- a transaction, as what is told of it has it
-abbrev pub written_lists : TxnTold → List Token
-written_lists told =
-    list_member (codes "open") (each_tokens count_item told.open_parts)
-    ++ (list_member (codes "ended") (each_tokens count_item told.ended_parts) ++ list_member (codes "held") (each_tokens held_item told.held))
+-- a transaction, as JSON has it
+abbrev pub written_lists : JsonTxn → List Token
+written_lists txn =
+    list_member (codes "open") (each_tokens count_item txn.open_parts)
+    ++ (list_member (codes "ended") (each_tokens count_item txn.ended_parts) ++ list_member (codes "held") (each_tokens held_item txn.held))
 
-abbrev pub written_txn : ℕ → TxnTold → List Token
-written_txn starter told =
+abbrev pub written_txn : ℕ → JsonTxn → List Token
+written_txn starter txn =
     begin_object
     ++ (count_member (codes "txn") starter
-    ++ (flag_member (codes "defers") told.defers ++ (written_lists told ++ end_object)))
+    ++ (flag_member (codes "defers") txn.defers ++ (written_lists txn ++ end_object)))
 
-pub record IsTxn (one : ℕ × TxnTold) : Type 0 where
+pub record IsTxn (one : ℕ × JsonTxn) : Type 0 where
   pub starter : one.0 < 2 ^ 64
   pub open_parts : All IsCount one.1.open_parts
   pub ended_parts : All IsCount one.1.ended_parts
   pub held : All IsSend one.1.held
 
-lists_read : (told : TxnTold) (rest : List Token) → All IsCount told.open_parts → All IsCount told.ended_parts → All IsSend told.held → lists_in told.defers (written_lists told ++ rest) ≡ Some (told, rest)
+lists_read : (txn : JsonTxn) (rest : List Token) → All IsCount txn.open_parts → All IsCount txn.ended_parts → All IsSend txn.held → lists_in txn.defers (written_lists txn ++ rest) ≡ Some (txn, rest)
 unfolding lists_in
-lists_read told rest open_good ended_good held_good =
-    goes_on (list_in (codes "open") count_at) _ (list_member (codes "open") (each_tokens count_item told.open_parts)) told.open_parts
-    (λ r. list_read count_at count_item IsCount count_is_item (codes "open") told.open_parts r open_good) _ rest
-    ∙ goes_on (list_in (codes "ended") count_at) _ (list_member (codes "ended") (each_tokens count_item told.ended_parts)) told.ended_parts
-    (λ r. list_read count_at count_item IsCount count_is_item (codes "ended") told.ended_parts r ended_good) _ rest
-    ∙ ends_with (list_in (codes "held") (object_by held_members)) _ (list_member (codes "held") (each_tokens held_item told.held)) told.held
-    (λ r. list_read (object_by held_members) held_item IsSend held_is_item (codes "held") told.held r held_good) rest
+lists_read txn rest open_good ended_good held_good =
+    goes_on (list_in (codes "open") count_at) _ (list_member (codes "open") (each_tokens count_item txn.open_parts)) txn.open_parts
+    (λ r. list_read count_at count_item IsCount count_is_item (codes "open") txn.open_parts r open_good) _ rest
+    ∙ goes_on (list_in (codes "ended") count_at) _ (list_member (codes "ended") (each_tokens count_item txn.ended_parts)) txn.ended_parts
+    (λ r. list_read count_at count_item IsCount count_is_item (codes "ended") txn.ended_parts r ended_good) _ rest
+    ∙ ends_with (list_in (codes "held") (object_by held_members)) _ (list_member (codes "held") (each_tokens held_item txn.held)) txn.held
+    (λ r. list_read (object_by held_members) held_item IsSend held_is_item (codes "held") txn.held r held_good) rest
 
-txn_read : (one : ℕ × TxnTold) (rest : List Token) → IsTxn one → object_by txn_members (written_txn one.0 one.1 ++ rest) ≡ Some (one, rest)
+txn_read : (one : ℕ × JsonTxn) (rest : List Token) → IsTxn one → object_by txn_members (written_txn one.0 one.1 ++ rest) ≡ Some (one, rest)
 unfolding txn_members
 txn_read one rest good =
-    let told = one.1 in
+    let txn = one.1 in
     object_read txn_members _ rest one
     (goes_on (count_in (codes "txn")) _ (count_member (codes "txn") one.0) one.0 (λ r. count_in_read (codes "txn") one.0 r good.starter) _ rest
-    ∙ goes_on (flag_in (codes "defers")) _ (flag_member (codes "defers") told.defers) told.defers (λ r. flag_in_read (codes "defers") told.defers r) _ rest
-    ∙ goes_on (lists_in told.defers) _ (written_lists told) told (λ r. lists_read told r good.open_parts good.ended_parts good.held) _ rest)
+    ∙ goes_on (flag_in (codes "defers")) _ (flag_member (codes "defers") txn.defers) txn.defers (λ r. flag_in_read (codes "defers") txn.defers r) _ rest
+    ∙ goes_on (lists_in txn.defers) _ (written_lists txn) txn (λ r. lists_read txn r good.open_parts good.ended_parts good.held) _ rest)
 
 pub txn_is_item : IsItem (object_by txn_members) (λ one. written_txn one.0 one.1) IsTxn
 unfolding begin_object
@@ -143,7 +143,7 @@ txn_is_item = record {
   some = λ one good. omega arith;
 }
 
--- ---- what is told of a transaction
+-- ---- what JSON has of a transaction
 
 one_member : (is : Bool) (n : ℕ) → cond is (count_item n) [] ≡ each_tokens count_item (cond is (n ∷ []) [])
 unfolding count_item
@@ -162,7 +162,7 @@ module _ (width : ℕ) (marks : ℕ → Option Mark) where
   txn_written starter defers sendings = grind (arith, held_unsigned, members_written)
 
   pub mark_written : (starter : ℕ) (sendings : List Sending) (mark : Option Mark)
-      → mark_item width marks starter sendings mark ≡ or_nothing (object_by txn_members) written_txn IsTxn txn_is_item starter (txn_told width marks starter sendings mark)
+      → mark_item width marks starter sendings mark ≡ or_nothing (object_by txn_members) written_txn IsTxn txn_is_item starter (txn_in_json width marks starter sendings mark)
   mark_written starter sendings mark = grind (arith, or_nothing, txn_is_item, txn_written)
 
   members_small : (starter : ℕ) (ended : Bool) → width ≤ 256 → All IsCount (members_of width marks starter ended)
@@ -251,16 +251,16 @@ module _ (V : View) (kernel : IsOfKernel V) where
           (record { target = omega (arith, inside, wide); signo = omega (arith, small); value = All-head HasSentWord m sendings words; from = refl })
           (unsigned_good sendings (All-tail (IsHeldSending S.width) m sendings known) (All-tail HasSentWord m sendings words))
 
-  abbrev pub told_at : ℕ → Option TxnTold
-  told_at starter = txn_told V.table.width V.table.marks starter (S.held starter) (V.table.marks starter)
+  abbrev pub txn_at : ℕ → Option JsonTxn
+  txn_at starter = txn_in_json V.table.width V.table.marks starter (S.held starter) (V.table.marks starter)
 
-  -- what is told of a transaction is of one that is live
-  told_of_live : (starter : ℕ) (mark : Option Mark) (told : TxnTold) → txn_told V.table.width V.table.marks starter (S.held starter) mark ≡ Some told
-      → (is_of starter mark ≡ true) × ((defers : Bool) × (txn_of V.table.width V.table.marks starter defers (S.held starter) ≡ told))
-  told_of_live starter mark told is = grind (arith, none_is_some, some_same)
+  -- what JSON has of a transaction is of one that is live
+  txn_of_live : (starter : ℕ) (mark : Option Mark) (txn : JsonTxn) → txn_in_json V.table.width V.table.marks starter (S.held starter) mark ≡ Some txn
+      → (is_of starter mark ≡ true) × ((defers : Bool) × (txn_of V.table.width V.table.marks starter defers (S.held starter) ≡ txn))
+  txn_of_live starter mark txn is = grind (arith, none_is_some, some_same)
 
-  pub good_txn : (starter : ℕ) (told : TxnTold) → told_at starter ≡ Some told → IsTxn (starter, told)
-  good_txn starter told is = grind (arith, between_above, good_send, members_small, told_of_live, wide)
+  pub good_txn : (starter : ℕ) (txn : JsonTxn) → txn_at starter ≡ Some txn → IsTxn (starter, txn)
+  good_txn starter txn is = grind (arith, between_above, good_send, members_small, txn_of_live, wide)
 
   -- ---- the lists of a state
 
@@ -273,8 +273,8 @@ module _ (V : View) (kernel : IsOfKernel V) where
   abbrev pipes_there : List (ℕ × List ℕ)
   pipes_there = all_numbered (λ n. n) S.pipes PIPES
 
-  abbrev txns_there : List (ℕ × TxnTold)
-  txns_there = all_numbered (λ n. n + 1) told_at V.table.width
+  abbrev txns_there : List (ℕ × JsonTxn)
+  txns_there = all_numbered (λ n. n + 1) txn_at V.table.width
 
   procs_read : (rest : List Token) → list_in (codes "procs") (object_by process_members) (procs_member S.width S.procs ++ rest) ≡ Some (procs_there, rest)
   procs_read rest =
@@ -294,11 +294,11 @@ module _ (V : View) (kernel : IsOfKernel V) where
 
   txns_read : (rest : List Token) → list_in (codes "txns") (object_by txn_members) (txns_member V.table.width V.table.marks S.held ++ rest) ≡ Some (txns_there, rest)
   txns_read rest =
-      listed_read (object_by txn_members) written_txn IsTxn txn_is_item (codes "txns") (λ n. n + 1) told_at V.table.width
+      listed_read (object_by txn_members) written_txn IsTxn txn_is_item (codes "txns") (λ n. n + 1) txn_at V.table.width
       (λ done. mark_item V.table.width V.table.marks (done + 1) (S.held (done + 1)) (V.table.marks (done + 1))) rest
-      (λ n. mark_written V.table.width V.table.marks (n + 1) (S.held (n + 1)) (V.table.marks (n + 1))) (λ n told below is. good_txn (n + 1) told is)
+      (λ n. mark_written V.table.width V.table.marks (n + 1) (S.held (n + 1)) (V.table.marks (n + 1))) (λ n txn below is. good_txn (n + 1) txn is)
 
-  -- ---- what stands by each number
+  -- ---- what is at each number
 
   from_one : {A : Type 0} (at : ℕ → Option A) (width : ℕ) → ((n : ℕ) (x : A) → at n ≡ Some x → (1 ≤ n) × (n ≤ width)) → (n : ℕ) → found_at (all_numbered (λ n. n + 1) at width) n ≡ at n
   from_one at width inside zero =
@@ -316,12 +316,12 @@ module _ (V : View) (kernel : IsOfKernel V) where
         ∙ sym (none_unless (at n) (λ x is. let low = inside n x is in absurd (omega (arith, low, above))))
   ]
 
-  told_same : record { procs = found_at procs_there; descs = found_at descs_there; pipes = found_at pipes_there; txns = found_at txns_there } ≡ told_of_view V
-  told_same = λ i. record {
+  read_same : record { procs = found_at procs_there; descs = found_at descs_there; pipes = found_at pipes_there; txns = found_at txns_there } ≡ state_in_json V
+  read_same = λ i. record {
     procs = λ n. from_one S.procs S.width place_of n i;
     descs = λ n. from_zero S.descs DESCRIPTIONS (λ n desc is. (kernel.formed.named n desc is).1) n i;
     pipes = λ n. from_zero S.pipes PIPES (λ n bytes is. (kernel.formed.pipes n bytes is).1) n i;
-    txns = λ n. from_one told_at V.table.width (λ n told is. between_above V.table.width n (kernel.members n n (told_of_live n (V.table.marks n) told is).0)) n i;
+    txns = λ n. from_one txn_at V.table.width (λ n txn is. between_above V.table.width n (kernel.members n n (txn_of_live n (V.table.marks n) txn is).0)) n i;
   }
 
   parts_read : (rest : List Token) → parts_in (parts_tokens S.width S ++ rest) ≡ Some ((procs_there, descs_there, pipes_there), rest)
@@ -332,19 +332,19 @@ module _ (V : View) (kernel : IsOfKernel V) where
       ∙ ends_with (list_in (codes "pipes") (object_by pipe_members)) _ (pipes_member S.pipes) pipes_there pipes_read rest
 
   -- the object of a state
-  pub state_read : (rest : List Token) → object_by state_members (state_tokens V ++ rest) ≡ Some (told_of_view V, rest)
+  pub state_read : (rest : List Token) → object_by state_members (state_tokens V ++ rest) ≡ Some (state_in_json V, rest)
   unfolding state_members
   state_read rest =
-      object_read state_members _ rest (told_of_view V)
+      object_read state_members _ rest (state_in_json V)
       (goes_on parts_in _ (parts_tokens S.width S) (procs_there, descs_there, pipes_there) parts_read _ rest
       ∙ goes_on (list_in (codes "txns") (object_by txn_members)) _ (txns_member V.table.width V.table.marks S.held) txns_there txns_read _ rest
-      ∙ ap (λ (told : StateTold). Some (told, end_object ++ rest)) told_same)
+      ∙ ap (λ (found : JsonState). Some (found, end_object ++ rest)) read_same)
 
   -- and the position before it
-  pub place_read : (at : ℕ) → at < 2 ^ 64 → object_by place_members (state_answer at V) ≡ Some ((at, told_of_view V), [])
+  pub place_read : (at : ℕ) → at < 2 ^ 64 → object_by place_members (state_answer at V) ≡ Some ((at, state_in_json V), [])
   unfolding place_members state_key
   place_read at small =
       ap (object_by place_members) (sym (append-nil (state_answer at V)))
-      ∙ object_read place_members _ [] (at, told_of_view V)
+      ∙ object_read place_members _ [] (at, state_in_json V)
       (goes_on (count_in (codes "at")) _ (count_member (codes "at") at) at (λ r. count_in_read (codes "at") at r small) _ []
-      ∙ goes_on (object_by state_members) _ (state_tokens V) (told_of_view V) state_read _ [])
+      ∙ goes_on (object_by state_members) _ (state_tokens V) (state_in_json V) state_read _ [])

@@ -14,12 +14,12 @@ use Rattle.tx_lines.specs.ListLaws.{joined, list_end, one_looked, some_in}
 use Rattle.tx_lines.specs.Lists.{list_text, member_text, some_after}
 use Rattle.tx_state_text.specs.Each.{upto}
 use Rattle.tx_state_text.specs.Txns.{flag_of, held_text, helds_text, is_listed_in, listed_text, mark_text, members_text, some_of, txn_lines, txns_text}
-use Rattle.tx_reads_back.specs.Told.{HasSentWord, unsigned}
-use Rattle.tx_reads_back.proofs.Fronts.{number_told, other_byte, regroup, signed_told, Stops}
-use Rattle.tx_reads_back.proofs.Items.{AreItems, items_told}
+use Rattle.tx_reads_back.specs.StateTexts.{HasSentWord, unsigned}
+use Rattle.tx_reads_back.proofs.Fronts.{number_unique, other_byte, regroup, signed_unique, Stops}
+use Rattle.tx_reads_back.proofs.Items.{AreItems, items_unique}
 use Rattle.tx_reads_back.proofs.Lines.{no_word, numbered_rank}
-use Rattle.tx_reads_back.proofs.Lists.{AreSmall, in_list, list_told, same_test, one_of_both}
-use Rattle.tx_reads_back.proofs.Numbered.{numbered, numbered_told, Tells}
+use Rattle.tx_reads_back.proofs.Lists.{AreSmall, in_list, list_unique, same_test, one_of_both}
+use Rattle.tx_reads_back.proofs.Numbered.{numbered, numbered_unique, Determines}
 use Rattle.tx_reads_back.proofs.Ranks.{rank}
 use Rattle.tx_reads_back.proofs.Upto.{keeps_upto}
 
@@ -28,7 +28,7 @@ numbers : ℕ → List ℕ
 numbers zero = []
 numbers (suc n) = numbers n ++ (n + 1) ∷ []
 
--- a number that stands in a list of the members of a transaction
+-- a number that is in a list of the members of a transaction
 listed : (ℕ → Bool) → ℕ → Bool
 listed test zero = false
 listed test (suc i) = test i
@@ -63,38 +63,38 @@ unfolding numbers
 among_numbers zero i below = absurd (omega arith)
 among_numbers (suc n) i below = grind (arith, nat_tests, one_of_both, among_numbers n i)
 
--- the members of a list tell of each number whether it stands there
-members_told : (width : ℕ) (marks others : ℕ → Option Mark) (starter : ℕ) (ended : Bool) (R S : List ℕ) → width < 2 ^ 16 → Stops in_list R → Stops in_list S →
+-- the members of a list say of each number whether it is there
+members_unique : (width : ℕ) (marks others : ℕ → Option Mark) (starter : ℕ) (ended : Bool) (R S : List ℕ) → width < 2 ^ 16 → Stops in_list R → Stops in_list S →
     members_text width marks starter ended ++ R ≡ members_text width others starter ended ++ S →
     ((i : ℕ) → i < width → is_listed_in (marks (i + 1)) starter ended ≡ is_listed_in (others (i + 1)) starter ended) × (R ≡ S)
 unfolding listed
-members_told width marks others starter ended R S small r s e =
+members_unique width marks others starter ended R S small r s e =
     let test : (ℕ → Option Mark) → ℕ → Bool = λ marks i. is_listed_in (marks (i + 1)) starter ended in
     let ns : (ℕ → Option Mark) → List ℕ = λ marks. filter (listed (test marks)) (numbers width) in
     let spelled : (marks : ℕ → Option Mark) → members_text width marks starter ended ≡ list_text (ns marks) = λ marks.
     (let so = listed_spelled (test marks) width in
     (λ j. so.0 j ++ (if so.1 j then [] else codes "-")) ∙ list_end (ns marks)) in
     let are_small : (marks : ℕ → Option Mark) → AreSmall (ns marks) = λ marks. small_filter (listed (test marks)) (numbers width) (numbers_small width small) in
-    let told = list_told (ns marks) (ns others) R S (are_small marks) (are_small others) r s
+    let unique = list_unique (ns marks) (ns others) R S (are_small marks) (are_small others) r s
     (ap (λ (t : List ℕ). t ++ R) (sym (spelled marks)) ∙ e ∙ ap (λ (t : List ℕ). t ++ S) (spelled others)) in
-    ((λ i below. same_test (listed (test marks)) (listed (test others)) (numbers width) (suc i) told.0 (among_numbers width i below)), told.1)
+    ((λ i below. same_test (listed (test marks)) (listed (test others)) (numbers width) (suc i) unique.0 (among_numbers width i below)), unique.1)
 
--- a signal that a line of a send tells
-pub record IsTellableSending (sending : Sending) : Type 0 where
+-- a signal that a line of a send shows
+pub record IsPrintableSending (sending : Sending) : Type 0 where
   pub target : sending.target < 2 ^ 64
   pub signo : sending.signo < 2 ^ 64
   pub value : HasSentWord sending
 
-sends_are : AreItems held_text unsigned IsTellableSending (λ t. 13 ≤ rank t) (λ t. 13 < rank t)
+sends_are : AreItems held_text unsigned IsPrintableSending (λ t. 13 ≤ rank t) (λ t. 13 < rank t)
 sends_are = record {
-  told = λ x y R S in_x in_y r s e.
+  unique = λ x y R S in_x in_y r s e.
       (let x_value : List ℕ = signed_decimal x.value ++ 10 ∷ [] in
       let y_value : List ℕ = signed_decimal y.value ++ 10 ∷ [] in
-      let target = number_told x.target y.target (58 ∷ ((decimal x.signo ++ 58 ∷ x_value) ++ R)) (58 ∷ ((decimal y.signo ++ 58 ∷ y_value) ++ S)) in_x.target in_y.target refl refl
+      let target = number_unique x.target y.target (58 ∷ ((decimal x.signo ++ 58 ∷ x_value) ++ R)) (58 ∷ ((decimal y.signo ++ 58 ∷ y_value) ++ S)) in_x.target in_y.target refl refl
       (regroup (decimal x.target) (58 ∷ (decimal x.signo ++ 58 ∷ x_value)) R (decimal y.target) (58 ∷ (decimal y.signo ++ 58 ∷ y_value)) S (ap (drop 5) e)) in
-      let signo = number_told x.signo y.signo (58 ∷ (x_value ++ R)) (58 ∷ (y_value ++ S)) in_x.signo in_y.signo refl refl
+      let signo = number_unique x.signo y.signo (58 ∷ (x_value ++ R)) (58 ∷ (y_value ++ S)) in_x.signo in_y.signo refl refl
       (regroup (decimal x.signo) (58 ∷ x_value) R (decimal y.signo) (58 ∷ y_value) S (ap (drop 1) target.1)) in
-      let value = signed_told x.value y.value (10 ∷ R) (10 ∷ S) in_x.value in_y.value refl refl
+      let value = signed_unique x.value y.value (10 ∷ R) (10 ∷ S) in_x.value in_y.value refl refl
       (regroup (signed_decimal x.value) (10 ∷ []) R (signed_decimal y.value) (10 ∷ []) S (ap (drop 1) signo.1)) in
       ((λ j. record { target = target.0 j; signo = signo.0 j; value = value.0 j; from = None }), ap (drop 1) value.1));
   follows = λ x R. omega arith;
@@ -110,12 +110,12 @@ flag_is : (flag : Bool) → flag_of flag ≡ 32 ∷ flag_rest flag
 unfolding flag_rest
 flag_is flag = grind arith
 
-flag_told : (a b : Bool) (r s : List ℕ) → flag_rest a ++ r ≡ flag_rest b ++ s → (a ≡ b) × (r ≡ s)
+flag_unique : (a b : Bool) (r s : List ℕ) → flag_rest a ++ r ≡ flag_rest b ++ s → (a ≡ b) × (r ≡ s)
 unfolding flag_rest
-flag_told true true r s e = (refl, ap (drop 11) e)
-flag_told true false r s e = absurd (other_byte 0 e refl)
-flag_told false true r s e = absurd (other_byte 0 e refl)
-flag_told false false r s e = (refl, ap (drop 5) e)
+flag_unique true true r s e = (refl, ap (drop 11) e)
+flag_unique true false r s e = absurd (other_byte 0 e refl)
+flag_unique false true r s e = absurd (other_byte 0 e refl)
+flag_unique false false r s e = (refl, ap (drop 5) e)
 
 module _ (width : ℕ) (marks : ℕ → Option Mark) (starter : ℕ) where
   abbrev lists : List ℕ
@@ -129,27 +129,27 @@ module _ (width : ℕ) (marks : ℕ → Option Mark) (starter : ℕ) where
   unfolding line_rest
   line_numbered held mark = grind (arith, append_assoc, flag_is, line_rest, numbered)
 
--- the lines of the transaction of one starter tell the same of two tables
-pub record TellSameTransaction (width : ℕ) (marks others : ℕ → Option Mark) (held holds : List Sending) (starter : ℕ) : Type 0 where
+-- the lines of the transaction of one starter say the same of two tables
+pub record SameTransaction (width : ℕ) (marks others : ℕ → Option Mark) (held holds : List Sending) (starter : ℕ) : Type 0 where
   pub defers : defers_in (marks starter) ≡ defers_in (others starter)
   pub listed : (ended : Bool) (i : ℕ) → i < width → is_listed_in (marks (i + 1)) starter ended ≡ is_listed_in (others (i + 1)) starter ended
   pub sends : map unsigned held ≡ map unsigned holds
 
 -- it is live in both or in neither, and where it is live the same
-pub record TellSame (width : ℕ) (marks others : ℕ → Option Mark) (held holds : List Sending) (starter : ℕ) : Type 0 where
+pub record SameThere (width : ℕ) (marks others : ℕ → Option Mark) (held holds : List Sending) (starter : ℕ) : Type 0 where
   pub live : is_of starter (marks starter) ≡ is_of starter (others starter)
-  pub told : is_of starter (marks starter) ≡ true → TellSameTransaction width marks others held holds starter
+  pub unique : is_of starter (marks starter) ≡ true → SameTransaction width marks others held holds starter
 
 module _ (width : ℕ) (marks others : ℕ → Option Mark) (small : width < 2 ^ 16) where
-  line_told : (starter : ℕ) (held holds : List Sending) (R S : List ℕ) → All IsTellableSending held → All IsTellableSending holds → 13 < rank R → 13 < rank S →
-      Tells (line_rest width marks starter (is_of starter (marks starter)) (defers_in (marks starter)) held) (line_rest width others starter (is_of starter (others starter)) (defers_in (others starter)) holds) R S
-      (TellSame width marks others held holds starter)
+  line_unique : (starter : ℕ) (held holds : List Sending) (R S : List ℕ) → All IsPrintableSending held → All IsPrintableSending holds → 13 < rank R → 13 < rank S →
+      Determines (line_rest width marks starter (is_of starter (marks starter)) (defers_in (marks starter)) held) (line_rest width others starter (is_of starter (others starter)) (defers_in (others starter)) holds) R S
+      (SameThere width marks others held holds starter)
   unfolding line_rest
-  line_told starter held holds R S x_good y_good r s = by (is_of starter (marks starter)) (is_of starter (others starter)) refl refl
+  line_unique starter held holds R S x_good y_good r s = by (is_of starter (marks starter)) (is_of starter (others starter)) refl refl
     where
       by : (b c : Bool) → is_of starter (marks starter) ≡ b → is_of starter (others starter) ≡ c →
-          Tells (line_rest width marks starter b (defers_in (marks starter)) held) (line_rest width others starter c (defers_in (others starter)) holds) R S (TellSame width marks others held holds starter)
-      by false false is is' = record { live = is ∙ sym is'; told = λ on. absurd (both_ways (is_of starter (marks starter)) is on) }
+          Determines (line_rest width marks starter b (defers_in (marks starter)) held) (line_rest width others starter c (defers_in (others starter)) holds) R S (SameThere width marks others held holds starter)
+      by false false is is' = record { live = is ∙ sym is'; unique = λ on. absurd (both_ways (is_of starter (marks starter)) is on) }
       by true false is is' = tt
       by false true is is' = tt
       by true true is is' = λ e.
@@ -158,23 +158,23 @@ module _ (width : ℕ) (marks others : ℕ → Option Mark) (small : width < 2 ^
           let x : List ℕ = helds_text held ++ R in
           let y : List ℕ = helds_text holds ++ S in
           let line = regroup (flag_rest (defers_in (marks starter)) ++ lists width marks starter) (helds_text held) R (flag_rest (defers_in (others starter)) ++ lists width others starter) (helds_text holds) S e in
-          let flag = flag_told (defers_in (marks starter)) (defers_in (others starter)) (lists width marks starter ++ x) (lists width others starter ++ y)
+          let flag = flag_unique (defers_in (marks starter)) (defers_in (others starter)) (lists width marks starter ++ x) (lists width others starter ++ y)
           (regroup (flag_rest (defers_in (marks starter))) (lists width marks starter) x (flag_rest (defers_in (others starter))) (lists width others starter) y line) in
-          let open_parts = members_told width marks others starter false (codes " ended " ++ (a ++ x)) (codes " ended " ++ (b ++ y)) small refl refl
+          let open_parts = members_unique width marks others starter false (codes " ended " ++ (a ++ x)) (codes " ended " ++ (b ++ y)) small refl refl
           (regroup (members_text width marks starter false) (codes " ended " ++ a) x (members_text width others starter false) (codes " ended " ++ b) y flag.1) in
-          let ended_parts = members_told width marks others starter true (10 ∷ x) (10 ∷ y) small refl refl
+          let ended_parts = members_unique width marks others starter true (10 ∷ x) (10 ∷ y) small refl refl
           (regroup (members_text width marks starter true) (10 ∷ []) x (members_text width others starter true) (10 ∷ []) y (ap (drop 7) open_parts.1)) in
-          let sends = items_told sends_are held holds R S x_good y_good r s (ap (drop 1) ended_parts.1) in
-          (record { live = is ∙ sym is'; told = λ on. record { defers = flag.0; listed = λ ended. elim ended as (λ ended. (i : ℕ) → i < width → is_listed_in (marks (i + 1)) starter ended ≡ is_listed_in (others (i + 1)) starter ended) [ true ↦ ended_parts.0 | false ↦ open_parts.0 ]; sends = sends.0 } }, sends.1))
+          let sends = items_unique sends_are held holds R S x_good y_good r s (ap (drop 1) ended_parts.1) in
+          (record { live = is ∙ sym is'; unique = λ on. record { defers = flag.0; listed = λ ended. elim ended as (λ ended. (i : ℕ) → i < width → is_listed_in (marks (i + 1)) starter ended ≡ is_listed_in (others (i + 1)) starter ended) [ true ↦ ended_parts.0 | false ↦ open_parts.0 ]; sends = sends.0 } }, sends.1))
 
-  pub txns_told : (held holds : ℕ → List Sending) (R S : List ℕ) → ((s : ℕ) → All IsTellableSending (held s)) → ((s : ℕ) → All IsTellableSending (holds s)) → 14 < rank R → 14 < rank S →
-      txns_text width marks held ++ R ≡ txns_text width others holds ++ S → ((i : ℕ) → i < width → TellSame width marks others (held (i + 1)) (holds (i + 1)) (i + 1)) × (R ≡ S)
-  txns_told held holds R S x_good y_good r s e =
+  pub txns_unique : (held holds : ℕ → List Sending) (R S : List ℕ) → ((s : ℕ) → All IsPrintableSending (held s)) → ((s : ℕ) → All IsPrintableSending (holds s)) → 14 < rank R → 14 < rank S →
+      txns_text width marks held ++ R ≡ txns_text width others holds ++ S → ((i : ℕ) → i < width → SameThere width marks others (held (i + 1)) (holds (i + 1)) (i + 1)) × (R ≡ S)
+  txns_unique held holds R S x_good y_good r s e =
       let x : ℕ → Option (List ℕ) = λ n. line_rest width marks n (is_of n (marks n)) (defers_in (marks n)) (held n) in
       let y : ℕ → Option (List ℕ) = λ n. line_rest width others n (is_of n (others n)) (defers_in (others n)) (holds n) in
-      numbered_told (codes "txn ") 32 refl (λ i. i + 1) (λ i j same. omega arith) (λ t. 14 ≤ rank t) (λ t. omega arith) width (λ i inside. omega arith)
-      (λ i. x (i + 1)) (λ i. y (i + 1)) (λ i. TellSame width marks others (held (i + 1)) (holds (i + 1)) (i + 1))
-      (λ i R S inside r s. line_told (i + 1) (held (i + 1)) (holds (i + 1)) R S (x_good (i + 1)) (y_good (i + 1)) (omega arith) (omega arith))
+      numbered_unique (codes "txn ") 32 refl (λ i. i + 1) (λ i j same. omega arith) (λ t. 14 ≤ rank t) (λ t. omega arith) width (λ i inside. omega arith)
+      (λ i. x (i + 1)) (λ i. y (i + 1)) (λ i. SameThere width marks others (held (i + 1)) (holds (i + 1)) (i + 1))
+      (λ i R S inside r s. line_unique (i + 1) (held (i + 1)) (holds (i + 1)) R S (x_good (i + 1)) (y_good (i + 1)) (omega arith) (omega arith))
       (λ i. txn_lines width marks held (i + 1)) (λ i. txn_lines width others holds (i + 1)) R S
       (λ i. line_numbered width marks (i + 1) (held (i + 1)) (marks (i + 1))) (λ i. line_numbered width others (i + 1) (holds (i + 1)) (others (i + 1))) (omega arith) (omega arith)
       (λ t. no_word 14 (codes "txn ") R t (λ t. refl) r) (λ t. no_word 14 (codes "txn ") S t (λ t. refl) s) e

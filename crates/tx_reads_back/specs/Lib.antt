@@ -1,4 +1,4 @@
-pub mod Told
+pub mod StateTexts
 pub mod Numbers
 pub mod ReadBack
 pub mod ReadEntries
@@ -6,4 +6,4 @@ pub mod ReadProcesses
 pub mod ReadReplies
 pub mod ReadStates
 pub mod Reading
-pub mod ToldStates
+pub mod JsonStates

@@ -6,13 +6,13 @@ use Rattle.tx_reads_back.specs.ReadReplies.{reply_in}
 use Rattle.tx_reads_back.specs.Reading.{◌>>=◌, count_in, object_by, whole, word_in, Read}
 
 -- an entry: its number, the worker that made the step, the text of the step, and the reply
-pub record EntryTold : Type 0 where
+pub record JsonEntry : Type 0 where
   pub number : ℕ
   pub worker : ℕ
   pub step : List ℕ
   pub reply : Reply
 
-unfoldable pub entry_members : Read EntryTold
+unfoldable pub entry_members : Read JsonEntry
 entry_members tokens = do
   number ← count_in (codes "step") tokens
   worker ← count_in (codes "worker") number.1
@@ -21,5 +21,5 @@ entry_members tokens = do
   Some (record { number = number.0; worker = worker.0; step = step.0; reply = reply.0 }, reply.1)
 
 -- what a line says of an entry
-abbrev pub entry_of_json : List ℕ → Option EntryTold
+abbrev pub entry_of_json : List ℕ → Option JsonEntry
 entry_of_json line = whole (object_by entry_members (tokens line))

@@ -134,14 +134,14 @@ unfoldable pub status_in : Read (Option ℕ)
 status_in tokens = status_by (count_in (codes "exit") tokens) (count_in (codes "killed") tokens) tokens
 
 -- what has to do with signals
-pub record SignalsTold : Type 0 where
+pub record JsonSignals : Type 0 where
   pub mask : ℕ
   pub actions : List Action
   pub pending : ℕ
   pub queued : List Queued
   pub frames : List Frame
 
-unfoldable pub signals_in : Read SignalsTold
+unfoldable pub signals_in : Read JsonSignals
 signals_in tokens = do
   mask ← set_in (codes "mask") tokens
   actions ← actions_in mask.1
@@ -150,7 +150,7 @@ signals_in tokens = do
   frames ← list_in (codes "frames") (object_by frame_members) queued.1
   Some (record { mask = mask.0; actions = actions.0; pending = pending.0; queued = queued.0; frames = frames.0 }, frames.1)
 
-abbrev pub process_with : ℕ → Option ℕ → Regs → Ids → Memory → List (Option ℕ) → SignalsTold → Process
+abbrev pub process_with : ℕ → Option ℕ → Regs → Ids → Memory → List (Option ℕ) → JsonSignals → Process
 process_with parent status registers ids memory descriptors signals = record {
   registers = registers;
   parent = parent;

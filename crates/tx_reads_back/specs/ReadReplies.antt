@@ -50,9 +50,9 @@ abbrev pub missed_at : Read Missed
 missed_at tokens = object_by missed_members tokens
 
 -- what follows the name of an error, where there must be one
-abbrev pub behind_error : Option (List ℕ) → List Token → Option (List Token)
-behind_error None tokens = Some tokens
-behind_error (Some name) tokens = do
+abbrev pub after_error : Option (List ℕ) → List Token → Option (List Token)
+after_error None tokens = Some tokens
+after_error (Some name) tokens = do
   word ← word_in (codes "error") tokens
   if bytes_eq word.0 name then Some word.1 else None
 
@@ -61,7 +61,7 @@ abbrev pub reply_by : List ℕ → Read Reply
 reply_by word tokens =
     if bytes_eq word (codes "ok") then (do
       ret ← number_in (codes "ret") tokens
-      rest ← behind_error (error_name ret.0) ret.1
+      rest ← after_error (error_name ret.0) ret.1
       Some (Done ret.0, rest))
     else if bytes_eq word (codes "ended") then Some (Ended, tokens)
     else if bytes_eq word (codes "committed") then (do

@@ -15,9 +15,9 @@ None >>= next = None
 Some one >>= next = next one
 
 -- what follows a key of that name
-abbrev pub behind_key : List ℕ → List Token → Option (List Token)
-behind_key name (Token.key found ∷ rest) = if bytes_eq found name then Some rest else None
-behind_key name _ = None
+abbrev pub after_key : List ℕ → List Token → Option (List Token)
+after_key name (Token.key found ∷ rest) = if bytes_eq found name then Some rest else None
+after_key name _ = None
 
 -- the text of a number, a string, and true or false
 abbrev pub digits_at : Read (List ℕ)
@@ -47,16 +47,16 @@ number_at tokens = do
 
 -- a member of that name
 unfoldable pub count_in : List ℕ → Read ℕ
-count_in name tokens = behind_key name tokens >>= count_at
+count_in name tokens = after_key name tokens >>= count_at
 
 unfoldable pub number_in : List ℕ → Read ℤ
-number_in name tokens = behind_key name tokens >>= number_at
+number_in name tokens = after_key name tokens >>= number_at
 
 unfoldable pub word_in : List ℕ → Read (List ℕ)
-word_in name tokens = behind_key name tokens >>= string_at
+word_in name tokens = after_key name tokens >>= string_at
 
 unfoldable pub flag_in : List ℕ → Read Bool
-flag_in name tokens = behind_key name tokens >>= flag_at
+flag_in name tokens = after_key name tokens >>= flag_at
 
 -- the bytes that a member spells by hex digits
 unfoldable pub bytes_in : List ℕ → Read (List ℕ)
@@ -66,24 +66,24 @@ bytes_in name tokens = do
   Some (bytes, word.1)
 
 -- what follows a bracket
-abbrev pub behind_begin : List Token → Option (List Token)
-behind_begin (Token.begin_object ∷ rest) = Some rest
-behind_begin _ = None
+abbrev pub after_begin : List Token → Option (List Token)
+after_begin (Token.begin_object ∷ rest) = Some rest
+after_begin _ = None
 
-abbrev pub behind_end : List Token → Option (List Token)
-behind_end (Token.end_object ∷ rest) = Some rest
-behind_end _ = None
+abbrev pub after_end : List Token → Option (List Token)
+after_end (Token.end_object ∷ rest) = Some rest
+after_end _ = None
 
-abbrev pub behind_list : List Token → Option (List Token)
-behind_list (Token.begin_array ∷ rest) = Some rest
-behind_list _ = None
+abbrev pub after_list : List Token → Option (List Token)
+after_list (Token.begin_array ∷ rest) = Some rest
+after_list _ = None
 
 -- an object whose members are read so
 unfoldable pub object_by : {A : Type 0} → Read A → Read A
 object_by members tokens = do
-  inside ← behind_begin tokens
+  inside ← after_begin tokens
   found ← members inside
-  rest ← behind_end found.1
+  rest ← after_end found.1
   Some (found.0, rest)
 
 -- the items of a list up to its end: the number bounds them
@@ -101,8 +101,8 @@ items_by item (suc most) tokens = items_step item (items_by item most) tokens (a
 -- a member of that name that is a list; it has no more items than there are tokens
 unfoldable pub list_in : {A : Type 0} → List ℕ → Read A → Read (List A)
 list_in name item tokens = do
-  list ← behind_key name tokens
-  inside ← behind_list list
+  list ← after_key name tokens
+  inside ← after_list list
   items_by item (suc (length inside)) inside
 
 -- what is read is all there is

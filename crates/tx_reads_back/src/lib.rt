@@ -9,7 +9,7 @@
 
 mod read_back;
 
-ghost use Rattle.tx_reads_back.specs.Told.{HistoriesAreOfKernel, RestingAreSame, TextsTellStates};
+ghost use Rattle.tx_reads_back.specs.StateTexts.{HistoriesAreOfKernel, RestingAreSame, TextsDetermineStates};
 
 pub use read_back::reads_back;
 use tx_laws::{next_view, well_formed, well_formed_table};
@@ -20,8 +20,8 @@ use tx_laws::{next_view, well_formed, well_formed_table};
 /// deferring. If the point and the answer of those that have ended are 0, all processes are the
 /// same. The law requires that a view's numbers are of the kernel's types; all else that it
 /// requires holds after every lawful history from a booted state.
-pub fn texts_tell_states()
-    ensures told { TextsTellStates }
+pub fn texts_determine_states()
+    ensures determined { TextsDetermineStates }
     ensures resting { RestingAreSame }
     ensures histories { HistoriesAreOfKernel }
 {

@@ -3,7 +3,7 @@ ghost use Rattle.tx_reads_back.specs.ReadBack.{EntriesReadBack, StatesReadBack, 
 
 /// The line of a step reads back to its reply and, where it was accepted, its number; that of an
 /// entry of a run to its number, its worker, its step's text and its reply; and the line of a state
-/// to the position and to all that is said of the state (`told_of_view`): by the reader of the
+/// to the position and to all that is said of the state (`state_in_json`): by the reader of the
 /// kit's JSON and the definitions of `ReadReplies`, `ReadEntries` and `ReadStates`. The law
 /// requires that numbers are of the kernel's types, and of a view what holds after every lawful
 /// history.

@@ -3,7 +3,7 @@ use Rattle.std.specs.Prelude.{ℕ, zero, suc, ◌+◌, List, [], ◌∷◌, ◌+
 use Rattle.std.specs.Fmt.{decimal}
 use Rattle.tx_base.specs.declared.steps.Accepted.{Accepted}
 use Rattle.tx_base.specs.declared.steps.Step.{Step}
-use Rattle.tx_journal.specs.Moved.{Told, moved_at, told_in}
+use Rattle.tx_journal.specs.Moved.{Moving, moved_at, moving_in}
 use Rattle.tx_model.specs.Schedules.{history_of}
 use Rattle.tx_model.specs.State.{State as Start}
 use Rattle.tx_model.specs.View.{View, view}
@@ -29,7 +29,7 @@ abbrev pub position_text : ℕ → List ℕ
 position_text at = codes "at " ++ (decimal at ++ codes "\n")
 
 -- the line of a history in which the steps of a transaction are together
-abbrev pub moved_line : Told → List ℕ
+abbrev pub moved_line : Moving → List ℕ
 moved_line moved = (if moved.one_moment then codes "moved one " else codes "moved many ") ++ (list_text moved.numbers ++ codes "\n")
 
 -- what a command responds once it is done
@@ -42,7 +42,7 @@ pub data Responded : Type 0 where
   no_end : Responded
   no_place : Responded
   -- the history with the steps of a transaction together, or that none is committed
-  moves : Told → Responded
+  moves : Moving → Responded
   no_commit : Responded
 
 -- what a response says
@@ -52,11 +52,11 @@ responded_in responses.State = the_state
 responded_in responses.NoStart = no_start
 responded_in responses.NoEnd = no_end
 responded_in responses.NoPlace = no_place
-responded_in (responses.Moved moved) = moves (told_in moved.value)
+responded_in (responses.Moved moved) = moves (moving_in moved.value)
 responded_in responses.NoCommit = no_commit
 
 -- the response about an entry
-abbrev pub commit_response : Option Told → Responded
+abbrev pub commit_response : Option Moving → Responded
 commit_response None = no_commit
 commit_response (Some moved) = moves moved
 

@@ -4,7 +4,7 @@ use Rattle.json.specs.Print.{print}
 use Rattle.json.specs.Token.{Token}
 use Rattle.tx_base.specs.declared.steps.Accepted.{Accepted}
 use Rattle.tx_base.specs.declared.steps.Step.{Step}
-use Rattle.tx_journal.specs.Moved.{Told}
+use Rattle.tx_journal.specs.Moved.{Moving}
 use Rattle.tx_json.specs.Answers.{lines_with, state_answer, step_answer}
 use Rattle.tx_json.specs.Each.{each_tokens}
 use Rattle.tx_json.specs.Lists.{count_item}
@@ -39,7 +39,7 @@ step_lines start earlier (step ∷ steps) =
     step_answer (length history) reply ∷ step_lines start history steps
 
 -- whether a transaction may count as one moment, and the entries with its steps together
-abbrev pub moved_members : Told → List Token
+abbrev pub moved_members : Moving → List Token
 moved_members moved = flag_member (codes "one_moment") moved.one_moment ++ list_member (codes "entries") (each_tokens count_item moved.numbers)
 
 -- what JSON has of a response after the lines of its text

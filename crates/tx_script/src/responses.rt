@@ -1,7 +1,7 @@
 //! What a command of the debugger responds, and how that is printed as text.
 ghost use Rattle.std.specs.Prelude.{◌≡◌, ◌++◌, OnOk, string_bytes};
 ghost use Rattle.tx_journal.specs.Entries.{history_of};
-ghost use Rattle.tx_journal.specs.Moved.{told_in};
+ghost use Rattle.tx_journal.specs.Moved.{moving_in};
 ghost use Rattle.tx_journal.specs.Sessions.{position_of, start_of};
 ghost use Rattle.tx_script.specs.Debug.{moved_line, position_text, responded_in, response_text};
 
@@ -66,7 +66,7 @@ fn put_position(text: &mut String, position: usize) -> Result<(), AllocError>
 /// Appends the line of a history in which the steps of a transaction are together.
 fn put_moved(text: &mut String, moved: &Moved) -> Result<(), AllocError>
     ensures { OnOk result
-        (string_bytes text.new ≡ string_bytes text.old ++ moved_line (told_in moved.now)) }
+        (string_bytes text.new ≡ string_bytes text.old ++ moved_line (moving_in moved.now)) }
 {
     let kind = if moved.one_moment {
         "moved one "

@@ -1,7 +1,7 @@
 //! Sessions: their journals beside the histories of runs, and what no text asks of them.
 use crate::runs::{go, ran, ran_wide};
 use crate::sessions::{session_after, session_of};
-use crate::texts::{told, told_by};
+use crate::texts::{report, session_report};
 use std::alloc::Global;
 use std::test::Fail;
 use tx_base::{NoMemory, Pid};
@@ -59,41 +59,41 @@ fn run_of(alloc: Global, schedule: &Schedule) -> Result<Ran, NoMemory> {
     }
 }
 
-/// What the run of a schedule tells.
-fn told_of_run(alloc: Global, schedule: &Schedule) -> Result<String, NoMemory> {
+/// What the run of a schedule says.
+fn run_report(alloc: Global, schedule: &Schedule) -> Result<String, NoMemory> {
     let run = run_of(alloc, schedule)?;
-    told(alloc, &run)
+    report(alloc, &run)
 }
 
-/// Whether a session tells that.
-fn tells(alloc: Global, session: &Session, wanted: &str) -> Result<bool, NoMemory> {
-    let told = told_by(alloc, session)?;
-    Ok(told.as_str() == wanted)
+/// Whether a session says that.
+fn says(alloc: Global, session: &Session, wanted: &str) -> Result<bool, NoMemory> {
+    let report = session_report(alloc, session)?;
+    Ok(report.as_str() == wanted)
 }
 
-/// Whether a session tells that after a walk to the start and back.
-fn tells_after_a_walk(alloc: Global, session: &mut Session, wanted: &str) -> Result<bool, Fail> {
+/// Whether a session says that after a walk to the start and back.
+fn says_after_a_walk(alloc: Global, session: &mut Session, wanted: &str) -> Result<bool, Fail> {
     go(alloc, session, 0)?;
     let end = session.len();
     go(alloc, session, end)?;
-    Ok(tells(alloc, session, wanted)?)
+    Ok(says(alloc, session, wanted)?)
 }
 
-/// Whether a session tells that, and again after a walk to the start and back: one that makes its steps
+/// Whether a session says that, and again after a walk to the start and back: one that makes its steps
 /// anew, and one that exchanges what was taken back.
-fn tells_both_ways(alloc: Global, session: &mut Session, wanted: &str) -> Result<bool, Fail> {
-    let anew = tells_after_a_walk(alloc, session, wanted)?;
+fn says_both_ways(alloc: Global, session: &mut Session, wanted: &str) -> Result<bool, Fail> {
+    let anew = says_after_a_walk(alloc, session, wanted)?;
     session.reserve_forward(0)?;
-    Ok(anew && tells_after_a_walk(alloc, session, wanted)?)
+    Ok(anew && says_after_a_walk(alloc, session, wanted)?)
 }
 
-/// Whether a session of the schedule tells what its run tells, before it is walked over and after.
+/// Whether a session of the schedule says what its run says, before it is walked over and after.
 fn are_alike(alloc: Global, text: &str) -> Result<bool, Fail> {
     let schedule = read_schedule(alloc, text.as_bytes())?;
-    let wanted = told_of_run(alloc, &schedule)?;
+    let wanted = run_report(alloc, &schedule)?;
     let mut session = session_of(alloc, schedule.header, schedule.steps.as_slice())?;
-    let made = tells(alloc, &session, wanted.as_str())?;
-    Ok(made && tells_both_ways(alloc, &mut session, wanted.as_str())?)
+    let made = says(alloc, &session, wanted.as_str())?;
+    Ok(made && says_both_ways(alloc, &mut session, wanted.as_str())?)
 }
 
 #[test]

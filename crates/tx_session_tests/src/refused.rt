@@ -7,7 +7,7 @@ ghost use Rattle.tx_journal.specs.Sessions.{IsAtEnd};
 use crate::runs::{go, kept, ran};
 use crate::schedules::{NUMBERS_AGAIN, SIDE_BY_SIDE, numbers_again, side_by_side};
 use crate::sessions::make_steps;
-use crate::texts::{told, told_by};
+use crate::texts::{report, session_report};
 use std::alloc::Global;
 use std::process::Abort;
 use tx_base::{Accepted, NoMemory, Step};
@@ -46,7 +46,7 @@ fn whole_run(rt: &impl Abort, alloc: Global, steps: &[Step]) -> Ran {
 fn a_run_is_made_whole_the_second_time(rt: HostRuntime) {
     let steps = side_by_side();
     let made = whole_run(&rt, rt.alloc(), &steps);
-    assert!(rt; is_text(told(rt.alloc(), &made), SIDE_BY_SIDE));
+    assert!(rt; is_text(report(rt.alloc(), &made), SIDE_BY_SIDE));
 }
 
 /// The run up to where it stopped.
@@ -60,11 +60,11 @@ fn partial_run(rt: &impl Abort, alloc: Global, steps: &[Step]) -> Kept {
     }
 }
 
-/// Whether a run tells what that of these steps from two processes tells. It does where memory is
+/// Whether a run says what that of these steps from two processes says. It does where memory is
 /// refused.
 fn is_run_of(alloc: Global, run: &Ran, steps: &[Step]) -> bool {
     match ran(alloc, 2, steps) {
-        Ok(whole) => are_same(told(alloc, &whole), told(alloc, run)),
+        Ok(whole) => are_same(report(alloc, &whole), report(alloc, run)),
         Err(NoMemory) => true,
     }
 }
@@ -82,8 +82,8 @@ fn go_on(alloc: Global, ran: &mut Ran, left: &[Step]) -> bool {
 }
 
 /// Whether the steps that are left are made, and the run is then the whole one.
-fn is_whole_behind(alloc: Global, run: &mut Ran, left: &[Step]) -> bool {
-    go_on(alloc, run, left) && is_text(told(alloc, run), NUMBERS_AGAIN)
+fn is_whole_after(alloc: Global, run: &mut Ran, left: &[Step]) -> bool {
+    go_on(alloc, run, left) && is_text(report(alloc, run), NUMBERS_AGAIN)
 }
 
 #[test]
@@ -95,7 +95,7 @@ fn a_partial_run_goes_on_where_it_stopped(rt: HostRuntime) {
     let mut run = first.ran;
     assert!(rt; is_run_of(rt.alloc(), &run, made), "stopped at {stopped}");
     assert!(rt;
-        is_whole_behind(rt.alloc(), &mut run, left),
+        is_whole_after(rt.alloc(), &mut run, left),
         "stopped at {stopped}"
     );
 }
@@ -124,24 +124,19 @@ fn without(alloc: Global, steps: &[Step], place: Option<usize>) -> Option<Vec<St
     Some(others)
 }
 
-/// Whether a session tells what the run of these steps tells. It does where memory is refused.
-fn tells_of(alloc: Global, session: &Session, steps: &[Step]) -> bool {
+/// Whether a session says what the run of these steps says. It does where memory is refused.
+fn says_steps(alloc: Global, session: &Session, steps: &[Step]) -> bool {
     match ran(alloc, 3, steps) {
-        Ok(whole) => are_same(told(alloc, &whole), told_by(alloc, session)),
+        Ok(whole) => are_same(report(alloc, &whole), session_report(alloc, session)),
         Err(NoMemory) => true,
     }
 }
 
-/// Whether a session tells of all the steps but that of a place, if there is one. It does where memory is
+/// Whether a session says all the steps but that of a place, if there is one. It does where memory is
 /// refused.
-fn tells_of_all_but(
-    alloc: Global,
-    session: &Session,
-    steps: &[Step],
-    refused: Option<usize>,
-) -> bool {
+fn says_all_but(alloc: Global, session: &Session, steps: &[Step], refused: Option<usize>) -> bool {
     match without(alloc, steps, refused) {
-        Some(others) => tells_of(alloc, session, others.as_slice()),
+        Some(others) => says_steps(alloc, session, others.as_slice()),
         None => true,
     }
 }
@@ -151,13 +146,13 @@ fn a_refused_step_has_not_come(rt: HostRuntime) {
     let steps = side_by_side();
     let mut session = booted(&rt, rt.alloc());
     let refused = make_steps(rt.alloc(), &mut session, &steps);
-    let same = tells_of_all_but(rt.alloc(), &session, &steps, refused);
+    let same = says_all_but(rt.alloc(), &session, &steps, refused);
     assert!(rt; same, "without {refused:?}");
-    assert!(rt; refused.is_some() || is_text(told_by(rt.alloc(), &session), SIDE_BY_SIDE));
+    assert!(rt; refused.is_some() || is_text(session_report(rt.alloc(), &session), SIDE_BY_SIDE));
 }
 
-/// Whether a session stands where so many of the steps are made. It does where memory is refused.
-fn stands_after(alloc: Global, session: &Session, steps: &[Step]) -> bool {
+/// Whether a session is where so many of the steps are made. It does where memory is refused.
+fn is_after(alloc: Global, session: &Session, steps: &[Step]) -> bool {
     match ran(alloc, 3, steps) {
         Ok(whole) => are_same(
             print_state(alloc, &whole.machine),
@@ -175,20 +170,20 @@ fn goes_on_to(alloc: Global, session: &mut Session, end: usize) -> bool {
     }
 }
 
-/// Whether a session stands where the steps up to its position are made.
-fn stands_at_its_position(alloc: Global, session: &Session, steps: &[Step]) -> bool {
+/// Whether a session is where the steps up to its position are made.
+fn is_at_its_position(alloc: Global, session: &Session, steps: &[Step]) -> bool {
     let (made, _left) = steps.split_at(session.position().min(steps.len()));
-    stands_after(alloc, session, made)
+    is_after(alloc, session, made)
 }
 
-/// Walks from the end to the first entry and to the end again, and looks at where it stands.
+/// Walks from the end to the first entry and to the end again, and looks at where it is.
 fn walk_and_look(rt: &impl Abort, alloc: Global, session: &mut Session, steps: &[Step]) {
     let end = session.len();
     assert!(rt; end == 12 && go(alloc, session, 1) == Ok(()));
     assert!(rt; goes_on_to(alloc, session, end));
-    assert!(rt; stands_at_its_position(alloc, session, steps));
+    assert!(rt; is_at_its_position(alloc, session, steps));
     assert!(rt; session.position() == end || go(alloc, session, end) == Ok(()));
-    assert!(rt; is_text(told_by(alloc, session), SIDE_BY_SIDE));
+    assert!(rt; is_text(session_report(alloc, session), SIDE_BY_SIDE));
 }
 
 #[test]

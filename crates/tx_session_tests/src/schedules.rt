@@ -32,7 +32,7 @@ pub(crate) fn side_by_side() -> [Step; 12] {
     ]
 }
 
-/// What three processes tell of it.
+/// What three processes say of it.
 pub(crate) const SIDE_BY_SIDE: &str = "2 sys_xbegin : ok 0
 3 sys_xbegin : ok 0
 2 map 0 : ok 0
@@ -71,7 +71,7 @@ pub(crate) fn numbers_again() -> [Step; 12] {
     ]
 }
 
-/// What two processes tell of it.
+/// What two processes say of it.
 pub(crate) const NUMBERS_AGAIN: &str = "2 sys_xbegin : ok 0
 2 fork 3 : ok 3
 3 fork 4 : ok 4

@@ -1,4 +1,4 @@
-//! What tests read, and what runs and sessions tell: their accepted steps with replies, and the state.
+//! What tests read, and what runs and sessions say: their accepted steps with replies, and the state.
 use std::alloc::{AllocError, Global};
 use tx_base::{NoMemory, Reply, Step};
 use tx_core::Ran;
@@ -6,8 +6,8 @@ use tx_journal::{Session, put_state};
 use tx_lines::{put, put_step};
 use tx_state_text::put_reply;
 
-/// What a run tells.
-pub(crate) fn told(alloc: Global, ran: &Ran) -> Result<String, NoMemory> {
+/// What a run says.
+pub(crate) fn report(alloc: Global, ran: &Ran) -> Result<String, NoMemory> {
     let mut text = String::new(alloc);
     for accepted in ran.history.as_slice() {
         put_line(&mut text, &accepted.step, &accepted.reply)?;
@@ -16,8 +16,8 @@ pub(crate) fn told(alloc: Global, ran: &Ran) -> Result<String, NoMemory> {
     Ok(text)
 }
 
-/// What a session tells: all its entries, and the state at its position.
-pub(crate) fn told_by(alloc: Global, session: &Session) -> Result<String, NoMemory> {
+/// What a session says: all its entries, and the state at its position.
+pub(crate) fn session_report(alloc: Global, session: &Session) -> Result<String, NoMemory> {
     let mut text = String::new(alloc);
     for entry in session.entries() {
         put_line(&mut text, &entry.step, &entry.reply)?;

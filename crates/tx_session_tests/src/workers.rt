@@ -2,7 +2,7 @@
 use crate::programs::read;
 use crate::runs::ran;
 use crate::sessions::session_after;
-use crate::texts::{told, told_by};
+use crate::texts::{report, session_report};
 use std::alloc::{AllocError, Global};
 use std::sync::Wait;
 use std::sync::atomic::AtomicBool;
@@ -142,18 +142,18 @@ fn what_many_workers_did_can_be_replayed(rt: HostRuntime) -> Result<(), Fail> {
     Ok(())
 }
 
-/// Whether a run tells what a session tells.
-fn tells_the_same(alloc: Global, run: &Ran, session: &Session) -> Result<bool, NoMemory> {
-    let told = told(alloc, run)?;
-    let wanted = told_by(alloc, session)?;
-    Ok(told.as_str() == wanted.as_str())
+/// Whether a run says what a session says.
+fn says_the_same(alloc: Global, run: &Ran, session: &Session) -> Result<bool, NoMemory> {
+    let report = report(alloc, run)?;
+    let wanted = session_report(alloc, session)?;
+    Ok(report.as_str() == wanted.as_str())
 }
 
-/// Whether the run of a session's steps from 16 processes tells what the session tells.
+/// Whether the run of a session's steps from 16 processes says what the session says.
 fn is_replayed(alloc: Global, session: &Session) -> Result<bool, NoMemory> {
     let steps = steps_of(alloc, session.entries())?;
     let again = ran(alloc, 16, steps.as_slice())?;
-    tells_the_same(alloc, &again, session)
+    says_the_same(alloc, &again, session)
 }
 
 /// Whether one of the entries is an abort.
@@ -162,23 +162,23 @@ fn has_an_abort(entries: &[Entry]) -> bool {
     replies.any(|reply| matches!(reply, Reply::Aborted(_)))
 }
 
-/// Whether a fault of workers is told by a name, also as one of a run.
-fn is_told_by(alloc: Global, fault: WorkFault, name: &str) -> Result<bool, AllocError> {
-    let told = format!(in alloc; "{fault}")?;
+/// Whether a fault of workers prints as a name, also as one of a run.
+fn is_named(alloc: Global, fault: WorkFault, name: &str) -> Result<bool, AllocError> {
+    let report = format!(in alloc; "{fault}")?;
     let run = RunFault::Work(fault);
-    let told_of_run = format!(in alloc; "{run}")?;
-    Ok(told.as_str() == name && told_of_run.as_str() == name)
+    let run_report = format!(in alloc; "{run}")?;
+    Ok(report.as_str() == name && run_report.as_str() == name)
 }
 
 #[test]
-fn faults_of_runs_are_told_by_name(rt: HostRuntime) {
+fn faults_of_runs_are_named(rt: HostRuntime) {
     for (fault, name) in [
         (WorkFault::NoMemory, "F6"),
         (WorkFault::Strayed, "F7"),
         (WorkFault::Spawn, "F8"),
     ] {
         assert!(rt;
-            matches!(is_told_by(rt.alloc(), fault, name), Ok(true)),
+            matches!(is_named(rt.alloc(), fault, name), Ok(true)),
             "{name}"
         );
     }

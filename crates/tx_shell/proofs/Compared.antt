@@ -8,7 +8,7 @@ use Rattle.tx_journal.specs.declared.pieces.Piece.{Piece}
 use Rattle.tx_model.specs.State.{boot_state}
 use Rattle.tx_model.specs.View.{View, view}
 use Rattle.tx_script.specs.Debug.{view_at}
-use Rattle.tx_shell.proofs.Differed.{pairs_tell}
+use Rattle.tx_shell.proofs.Differed.{pairs_say}
 use Rattle.tx_shell.proofs.Listed.{history_to}
 use Rattle.tx_shell.specs.Comparisons.{are_there, compared_at, IsAmong}
 use Rattle.tx_shell.specs.Differences.{all_differing, piece_differing, views_differing}
@@ -20,14 +20,14 @@ shown_there first now at journal there =
     (λ i. view (boot_state (journal.boot.width i) (journal.boot.count i)) (history_of (take (there i) (journal.entries i))))
     ∙ ap (λ (h : List Accepted). view (start_of first) h) (history_to at first.entries)
 
--- where the lines of all pieces are put down, it is told how the states differ
-pub states_told : (V W : View) (found one two : List Piece) (before after : List (List ℕ)) (none told : List ℕ) → found ≡ state_pieces V.table.width → one ≡ found → two ≡ found → before ≡ lines_of one V → after ≡ lines_of two W →
-    none ≡ [] → told ≡ none ++ all_differing before after → told ≡ views_differing V W
-states_told V W found one two before after none told are first second was is blank put =
+-- where the lines of all pieces are put down, they say how the states differ
+pub states_said : (V W : View) (found one two : List Piece) (before after : List (List ℕ)) (none report : List ℕ) → found ≡ state_pieces V.table.width → one ≡ found → two ≡ found → before ≡ lines_of one V → after ≡ lines_of two W →
+    none ≡ [] → report ≡ none ++ all_differing before after → report ≡ views_differing V W
+states_said V W found one two before after none report are first second was is blank put =
     put
     ∙ (λ i. blank i ++ all_differing (was i) (is i))
     ∙ (λ i. all_differing (lines_of (first i) V) (lines_of (second i) W))
-    ∙ pairs_tell V W found
+    ∙ pairs_say V W found
     ∙ ap (each_text (piece_differing V W)) are
 
 -- where one of two positions is not there, the old one stays

@@ -7,10 +7,10 @@ use Rattle.std.proofs.KnownBytes.{Keeps-refl}
 use Rattle.std.specs.Io.KnownBytes.{Consumes, Keeps}
 use Rattle.tx_shell.specs.Cuts.{TakesLine, TakesPart}
 use Rattle.tx_translate.specs.MeantLines.{behind, behind_by}
-use Rattle.tx_shell.specs.declared.talks.taking.Next.TheVariants.{Ended, Nothing, Open}
+use Rattle.tx_shell.specs.declared.sessions.taking.Next.TheVariants.{Ended, Nothing, Open}
 use Rattle.tx_lines.specs.Schedule.{after_line, first_line}
 
--- the first line of a text and its end stand at its front, and end a line whatever follows
+-- the first line of a text and its end are at its front, and end a line whatever follows
 ended_front : (shown rest : List ℕ) → after_line shown ≡ Some rest → take (length (first_line shown) + 1) shown ≡ first_line shown ++ 10 ∷ []
 ended_front [] rest e = absurd (cc)
 ended_front (byte ∷ bytes) rest e =
@@ -216,7 +216,7 @@ front_kept line part count short is =
     ap (λ (n : ℕ). line ++ take n part) room ∙ ap (λ (t : List ℕ). line ++ t) (take_min (514 - length line) part) ∙ sym (take-append-add line part (514 - length line))
     ∙ ap (λ (n : ℕ). take n (line ++ part)) all
 
--- what is left behind a line's end, and where there is none
+-- what is left after a line's end, and where there is none
 pub some_after : {A : Type 0} (f : A → List ℕ) (found : Option A) (after : Option (List ℕ)) → option_map f found ≡ after → true ≡ is_some found → after ≡ Some (behind_by after)
 some_after f None after e is = absurd (cc)
 some_after f (Some a) after e is = sym e ∙ ap (λ (o : Option (List ℕ)). Some (behind_by o)) e

@@ -1,4 +1,4 @@
--- How two states differ, told by pieces that cover their changes.
+-- How two states differ, by pieces that cover their changes.
 use Rattle.std.proofs.Common.{◌≡◌, ◌≤◌, ◌<◌, ◌+◌, ◌||◌, ◌⊎◌, arith, inl, inr, ℕ, zero, suc, min, Bool, true, false, List, [], ◌∷◌, ◌++◌, drop, length, map, if◌then◌else◌, refl, sym, ap, ap₂, ◌∙◌, append_assoc}
 use Rattle.std.proofs.lemmas.List.{append-nil}
 use Rattle.std.proofs.lemmas.Slice.Eq.{bytes_eq-Decides}
@@ -29,29 +29,29 @@ none_left (line ∷ more) =
 none_differs : (text : List ℕ) → differing text text ≡ []
 none_differs text = ap (λ (left : List (List ℕ)). marked (codes "- ") left ++ marked (codes "+ ") left) (none_left (lines text))
 
--- pieces that are told nothing of can be left out
-chosen_tell : (chosen : Piece → Bool) (tell : Piece → List ℕ) → ((piece : Piece) → chosen piece ≡ false → tell piece ≡ []) → (found : List Piece) → each_text tell (filter chosen found) ≡ each_text tell found
-chosen_tell chosen tell silent [] = refl
-chosen_tell chosen tell silent (piece ∷ found) = by (chosen_tell chosen tell silent found) (chosen piece) refl
+-- pieces of which nothing is said can be left out
+chosen_say : (chosen : Piece → Bool) (say : Piece → List ℕ) → ((piece : Piece) → chosen piece ≡ false → say piece ≡ []) → (found : List Piece) → each_text say (filter chosen found) ≡ each_text say found
+chosen_say chosen say silent [] = refl
+chosen_say chosen say silent (piece ∷ found) = by (chosen_say chosen say silent found) (chosen piece) refl
   where
-    by : each_text tell (filter chosen found) ≡ each_text tell found → (b : Bool) → chosen piece ≡ b → each_text tell (if b then piece ∷ filter chosen found else filter chosen found) ≡ tell piece ++ each_text tell found
-    by rest true is = ap (λ (t : List ℕ). tell piece ++ t) rest
-    by rest false is = rest ∙ ap (λ (t : List ℕ). t ++ each_text tell found) (sym (silent piece is))
+    by : each_text say (filter chosen found) ≡ each_text say found → (b : Bool) → chosen piece ≡ b → each_text say (if b then piece ∷ filter chosen found else filter chosen found) ≡ say piece ++ each_text say found
+    by rest true is = ap (λ (t : List ℕ). say piece ++ t) rest
+    by rest false is = rest ∙ ap (λ (t : List ℕ). t ++ each_text say found) (sym (silent piece is))
 
-pub pairs_tell : (V W : View) (found : List Piece) → all_differing (lines_of found V) (lines_of found W) ≡ each_text (piece_differing V W) found
-pairs_tell V W [] = refl
-pairs_tell V W (piece ∷ found) = ap (λ (t : List ℕ). piece_differing V W piece ++ t) (pairs_tell V W found)
+pub pairs_say : (V W : View) (found : List Piece) → all_differing (lines_of found V) (lines_of found W) ≡ each_text (piece_differing V W) found
+pairs_say V W [] = refl
+pairs_say V W (piece ∷ found) = ap (λ (t : List ℕ). piece_differing V W piece ++ t) (pairs_say V W found)
 
 covered_differ : (V W : View) (found : List Piece) → CoverChanges V W found → all_differing (lines_of found V) (lines_of found W) ≡ views_differing V W
 covered_differ V W found cover =
-    pairs_tell V W found
+    pairs_say V W found
     ∙ ap (each_text (piece_differing V W)) cover.are
-    ∙ chosen_tell cover.chosen (piece_differing V W) (λ piece same. ap (λ (t : List ℕ). differing (piece_text piece V) t) (sym (cover.others piece same)) ∙ none_differs (piece_text piece V)) (state_pieces V.table.width)
+    ∙ chosen_say cover.chosen (piece_differing V W) (λ piece same. ap (λ (t : List ℕ). differing (piece_text piece V) t) (sym (cover.others piece same)) ∙ none_differs (piece_text piece V)) (state_pieces V.table.width)
 
--- where their lines are put down so, it is told how the states differ
-pub views_told : (V W now : View) (found one two : List Piece) (before after : List (List ℕ)) (none told : List ℕ) → CoverChanges V W found → one ≡ found → two ≡ found → now ≡ V → before ≡ lines_of one now → after ≡ lines_of two W →
-    none ≡ [] → told ≡ none ++ all_differing before after → told ≡ views_differing V W
-views_told V W now found one two before after none told cover first second seen was is blank put =
+-- where their lines are put down so, they say how the states differ
+pub views_said : (V W now : View) (found one two : List Piece) (before after : List (List ℕ)) (none report : List ℕ) → CoverChanges V W found → one ≡ found → two ≡ found → now ≡ V → before ≡ lines_of one now → after ≡ lines_of two W →
+    none ≡ [] → report ≡ none ++ all_differing before after → report ≡ views_differing V W
+views_said V W now found one two before after none report cover first second seen was is blank put =
     put
     ∙ (λ i. blank i ++ all_differing (was i) (is i))
     ∙ (λ i. all_differing (lines_of (first i) (seen i)) (lines_of (second i) W))
@@ -66,7 +66,7 @@ pub one_past : (one other end i : ℕ) → end ≡ min one other → end ≤ i �
 one_past one other end i is past = elim (up_to one i) [ inl h ↦ inl h | inr h ↦ inr (omega (arith, is, past, h)) ]
 
 module _ {A : Type 0} (bytes : A → List ℕ) where
-  -- the first i texts are told to differ so, behind what there was before
+  -- how the first i texts differ is after what there was before
   abbrev pub DifferSoFar : List A → List A → List ℕ → List ℕ → ℕ → Type 0
   DifferSoFar before after old text i = old ++ all_differing (map bytes before) (map bytes after) ≡ text ++ all_differing (map bytes (drop i before)) (map bytes (drop i after))
 
@@ -82,8 +82,8 @@ module _ {A : Type 0} (bytes : A → List ℕ) where
   none_after [] = refl
   none_after (text ∷ texts) = refl
 
-  pub pairs_told : (before after : List A) (old text : List ℕ) (i : ℕ) → DifferSoFar before after old text i → (length before ≤ i) ⊎ (length after ≤ i) → text ≡ old ++ all_differing (map bytes before) (map bytes after)
-  pairs_told before after old text i so past = sym (so ∙ ap (λ (t : List ℕ). text ++ t) (by past) ∙ append-nil text)
+  pub pairs_said : (before after : List A) (old text : List ℕ) (i : ℕ) → DifferSoFar before after old text i → (length before ≤ i) ⊎ (length after ≤ i) → text ≡ old ++ all_differing (map bytes before) (map bytes after)
+  pairs_said before after old text i so past = sym (so ∙ ap (λ (t : List ℕ). text ++ t) (by past) ∙ append-nil text)
     where
       by : (length before ≤ i) ⊎ (length after ≤ i) → all_differing (map bytes (drop i before)) (map bytes (drop i after)) ≡ []
       by (inl short) = ap (λ (xs : List A). all_differing (map bytes xs) (map bytes (drop i after))) (drop_of_length-le before short)

@@ -19,7 +19,7 @@ each_more text items i d before now after inside so_far more =
     let one : each_text text (take (i + 1) items) ≡ each_text text (take i items) ++ text (get_or items i d) = rw add-one (each_suc text items i d inside) in
     more ∙ ap (λ (t : List ℕ). t ++ text (get_or items i d)) so_far ∙ append_assoc before (each_text text (take i items)) (text (get_or items i d)) ∙ ap (λ (t : List ℕ). before ++ t) (sym one)
 
--- what each item stands for
+-- what each item means
 pub text_map : {A B : Type 0} (text : B → List ℕ) (f : A → B) (items : List A) → each_text (λ item. text (f item)) items ≡ each_text text (map f items)
 text_map text f [] = refl
 text_map text f (item ∷ items) = ap (λ (t : List ℕ). text (f item) ++ t) (text_map text f items)

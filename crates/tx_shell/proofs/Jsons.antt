@@ -5,14 +5,14 @@ use Rattle.tx_json.specs.Answers.{lines_front, lines_member, lines_with}
 use Rattle.tx_json.specs.Line.{IsLineOf}
 use Rattle.tx_json.specs.Members.{begin_object, count_member, end_object}
 
--- an answer that has those members behind its lines
-pub said_with : (at : ℕ) (told text : List ℕ) (written members : List Token) → written ≡ lines_front at told ++ members → IsLineOf (written ++ end_object) text → IsLineOf (lines_with at told members) text
-said_with at told text written members put line =
+-- an answer that has those members after its lines
+pub said_with : (at : ℕ) (report text : List ℕ) (written members : List Token) → written ≡ lines_front at report ++ members → IsLineOf (written ++ end_object) text → IsLineOf (lines_with at report members) text
+said_with at report text written members put line =
     let count = count_member (codes "at") at in
-    let lines = lines_member told in
+    let lines = lines_member report in
     subst (λ (tokens : List Token). IsLineOf tokens text)
     (ap (λ (t : List Token). t ++ end_object) put
-    ∙ append_assoc (lines_front at told) members end_object
+    ∙ append_assoc (lines_front at report) members end_object
     ∙ append_assoc begin_object (count ++ lines) (members ++ end_object)
     ∙ ap (λ (t : List Token). begin_object ++ t) (append_assoc count lines (members ++ end_object))) line
 

@@ -78,7 +78,7 @@ module _ (line : List ℕ) where
       let same : from.0 ≡ place = omega (arith, at) in
       subst (IsPlace line others) same from.2
 
--- what is left over of the first i lines stands behind what there was before
+-- what is left over of the first i lines is after what there was before
 abbrev pub LeftSoFar : List ℕ → List (Bor (List ℕ)) → List (List ℕ) → List ℕ → List ℕ → List (List ℕ) → ℕ → Type 0
 LeftSoFar mark lines first before text others i = before ++ marked mark (left_over (spelled lines) first) ≡ text ++ marked mark (left_over (spelled (drop i lines)) others)
 
@@ -97,15 +97,15 @@ module _ (mark : List ℕ) (lines : List (Bor (List ℕ))) (first : List (List �
   pub one_taken : has_line line.now others ≡ true → LeftSoFar mark lines first before text next (i + 1)
   one_taken has = by_line ∙ ap (λ (b : Bool). text ++ marked mark (if b then left_over rest next else line.now ∷ left_over rest others)) has
 
-  pub one_told : has_line line.now others ≡ false → (more : List ℕ) → more ≡ text ++ (mark ++ (line.now ++ 10 ∷ [])) → LeftSoFar mark lines first before more next (i + 1)
-  one_told none more put =
+  pub one_said : has_line line.now others ≡ false → (more : List ℕ) → more ≡ text ++ (mark ++ (line.now ++ 10 ∷ [])) → LeftSoFar mark lines first before more next (i + 1)
+  one_said none more put =
       by_line ∙ ap (λ (b : Bool). text ++ marked mark (if b then left_over rest next else line.now ∷ left_over rest others)) none
       ∙ ap (λ (same : List (List ℕ)). text ++ ((mark ++ (line.now ++ 10 ∷ [])) ++ marked mark (left_over rest same))) (sym (less ∙ less_none line.now others none))
       ∙ sym (append_assoc text (mark ++ (line.now ++ 10 ∷ [])) (marked mark (left_over rest next)))
       ∙ ap (λ (t : List ℕ). t ++ marked mark (left_over rest next)) (sym put)
 
-pub all_told : (mark : List ℕ) (lines : List (Bor (List ℕ))) (first : List (List ℕ)) (before text : List ℕ) (others : List (List ℕ)) (i : ℕ) → LeftSoFar mark lines first before text others i → length lines ≤ i
+pub all_said : (mark : List ℕ) (lines : List (Bor (List ℕ))) (first : List (List ℕ)) (before text : List ℕ) (others : List (List ℕ)) (i : ℕ) → LeftSoFar mark lines first before text others i → length lines ≤ i
     → text ≡ before ++ marked mark (left_over (spelled lines) first)
 unfolding left_over
-all_told mark lines first before text others i so past =
+all_said mark lines first before text others i so past =
     sym (so ∙ ap (λ (xs : List (Bor (List ℕ))). text ++ marked mark (left_over (spelled xs) others)) (drop_of_length-le lines past) ∙ append-nil text)

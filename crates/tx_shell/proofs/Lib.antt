@@ -1,4 +1,4 @@
-pub mod Behind
+pub mod AfterFront
 pub mod Compared
 pub mod Consoles
 pub mod CutLines
@@ -17,8 +17,8 @@ pub mod Numbers
 pub mod OwnSteps
 pub mod Owned
 pub mod Replayed
+pub mod Served
 pub mod Sought
 pub mod Spelled
-pub mod Talked
 pub mod TwoNumbers
 pub mod Differed

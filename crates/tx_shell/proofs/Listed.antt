@@ -11,7 +11,7 @@ use Rattle.tx_lines.specs.Schedule.{steps_text}
 use Rattle.tx_script.specs.Debug.{first_steps}
 use Rattle.tx_shell.specs.Journals.{by_number, steps_of}
 
--- what is said of the first i entries stands behind what there was before
+-- what is said of the first i entries is after what there was before
 abbrev pub ListedSoFar : {B : Type 0} → (ℕ → Accepted → List B) → List Entry → List B → List B → ℕ → Type 0
 ListedSoFar say entries before text i = before ++ by_number say 1 (map accepted_of entries) ≡ text ++ by_number say (i + 1) (map accepted_of (drop i entries))
 
@@ -29,7 +29,7 @@ pub all_listed : {B : Type 0} (say : ℕ → Accepted → List B) (entries : Lis
 all_listed say entries before text i so past =
     sym (so ∙ ap (λ (xs : List Entry). text ++ by_number say (i + 1) (map accepted_of xs)) (drop_of_length-le entries past) ∙ append-nil text)
 
--- the steps of the first i entries stand there
+-- the steps of the first i entries are there
 abbrev pub StepsSoFar : List Entry → List ℕ → List ℕ → ℕ → Type 0
 StepsSoFar entries before text i = before ++ steps_text (steps_of entries) ≡ text ++ steps_text (steps_of (drop i entries))
 
@@ -57,11 +57,11 @@ history_to at entries =
     ap (λ (h : List Accepted). reverse h) (sym (take-map accepted_of at entries))
     ∙ ap (λ (h : List Accepted). reverse (take at h)) (sym (oldest_first entries))
 
-steps_told : (entries : List Entry) → steps_of entries ≡ map (λ (e : Accepted). e.step) (map accepted_of entries)
-steps_told [] = refl
-steps_told (entry ∷ entries) = ap (λ (steps : List Step). entry.step ∷ steps) (steps_told entries)
+steps_said : (entries : List Entry) → steps_of entries ≡ map (λ (e : Accepted). e.step) (map accepted_of entries)
+steps_said [] = refl
+steps_said (entry ∷ entries) = ap (λ (steps : List Step). entry.step ∷ steps) (steps_said entries)
 
 pub made_steps : (at : ℕ) (entries : List Entry) → steps_of (take at entries) ≡ map (λ (e : Accepted). e.step) (take at (reverse (history_of entries)))
 made_steps at entries =
-    steps_told (take at entries)
+    steps_said (take at entries)
     ∙ ap (λ (es : List Accepted). map (λ (e : Accepted). e.step) es) (sym (take-map accepted_of at entries) ∙ ap (λ (es : List Accepted). take at es) (sym (oldest_first entries)))

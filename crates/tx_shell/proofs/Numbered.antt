@@ -33,7 +33,7 @@ module _ (say : ℕ → List ℕ) where
   list_end [] = refl
   list_end (n ∷ ns) = append-nil (say n ++ more_said say ns)
 
-  -- those of the first i numbers that are listed stand behind what there was before, and whether there is one
+  -- those of the first i numbers that are listed are after what there was before, and whether there is one
   pub record NumberedTo (listed : ℕ → Bool) (before now : List ℕ) (any : Bool) (i : ℕ) : Type 0 where
     pub text : now ≡ before ++ joined (listed_below listed i)
     pub some : any ≡ some_in (listed_below listed i)

@@ -1,4 +1,4 @@
--- A line that asks for nothing by numbers behind its first word.
+-- A line that asks for nothing by numbers after its first word.
 use Rattle.std.proofs.Common.{◌≡◌, ◌≢◌, ℕ, ◌<◌, ◌^◌, List, ◌∷◌, ◌++◌, Option, None, Some, codes}
 use Rattle.std.proofs.lemmas.Option.{none-some}
 use Rattle.std.specs.Fmt.{decimal}
@@ -11,7 +11,7 @@ use Rattle.tx_shell.specs.declared.lines.versions.TextVersion.{TextVersion}
 abbrev BeginsOther : List ℕ → List ℕ → Type 0
 BeginsOther line front = (rest : List ℕ) → line ≢ front ++ rest
 
--- no number behind that front is read
+-- no number after that front is read
 abbrev ReadsNone : List ℕ → List ℕ → Option ℕ → Type 0
 ReadsNone line front found = (n : ℕ) → n < 2 ^ 8 → line ≡ front ++ decimal n → found ≡ Some n
 

@@ -77,7 +77,7 @@ module _ (line : List ℕ) (begins : BeginsAsStep line) where
   third_stays : plain_line (Within Schedule) (without_return line) ≡ Some line → third_line line ≡ Some line
   third_stays means = rw asks_none (rw (and-false (not (nat_lt 512 (length line)))) (ap (λ (plain : Option (List ℕ)). or_naming plain (naming_in (without_return line))) means))
 
--- a step is no line that ends a talk
+-- a step is no line that ends a session
 pub no_quit : (step : Step) → FitsStep step → step_text step ≢ quit_line
 no_quit step fits quits =
     let begins = begins_as_step step fits in

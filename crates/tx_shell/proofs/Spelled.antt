@@ -1,4 +1,4 @@
--- A text can hold what a talk has.
+-- A text can hold what a session has.
 use Rattle.std.proofs.Common.{◌≡◌, ◌<◌, ◌≤◌, ℕ, Bool, List, [], ◌∷◌, ◌++◌, reverse, take, Option, None, Some, inl, inr, sym, subst, true, false, arith}
 use Rattle.std.proofs.lemmas.List.{reverse-append}
 use Rattle.std.proofs.lemmas.List.Elements.{All-cons, All-head, All-map, All-nil, All-push, All-same, All-tail, All-take}
@@ -15,7 +15,7 @@ use Rattle.tx_model.specs.Schedules.{history_with}
 use Rattle.tx_model.specs.State.{State}
 use Rattle.tx_script.specs.Debug.{first_steps}
 use Rattle.tx_shell.specs.Answers.{left_by, lets_go, AnswersAskIn, AnswersStep, AnswersWords, Kept}
-use Rattle.tx_shell.specs.Events.{End, Failure, Line, Talks, Text}
+use Rattle.tx_shell.specs.Events.{End, Failure, Line, Exchanges, Text}
 use Rattle.tx_shell.specs.Origins.{version_of, grammar_of, Origin}
 use Rattle.tx_shell.specs.Places.{Place}
 use Rattle.tx_shell.specs.Spelled.{AllFit, IsSpelled, SpellsSchedule, StaysSpelled}
@@ -92,16 +92,16 @@ answered s t line text (inl opens) spelled = opened s t line text opens
 answered s t line text (inr (none, answers)) spelled = meant s t line _ text answers spelled
 
 pub stays_spelled : StaysSpelled
-unfolding Talks
-stays_spelled s t [] talks spelled = subst IsSpelled (sym talks) spelled
-stays_spelled s t (Line one ∷ Text told ∷ events) talks spelled = stays_spelled talks.0 t events talks.2 (answered s talks.0 one told talks.1 spelled)
-stays_spelled s t (Line one ∷ []) talks spelled = absurd talks
-stays_spelled s t (Line one ∷ Line two ∷ events) talks spelled = absurd talks
-stays_spelled s t (Line one ∷ End ∷ events) talks spelled = absurd talks
-stays_spelled s t (Line one ∷ Failure ∷ events) talks spelled = absurd talks
-stays_spelled s t (End ∷ events) talks spelled = absurd talks
-stays_spelled s t (Text told ∷ events) talks spelled = absurd talks
-stays_spelled s t (Failure ∷ events) talks spelled = absurd talks
+unfolding Exchanges
+stays_spelled s t [] exchanges spelled = subst IsSpelled (sym exchanges) spelled
+stays_spelled s t (Line one ∷ Text shown ∷ events) exchanges spelled = stays_spelled exchanges.0 t events exchanges.2 (answered s exchanges.0 one shown exchanges.1 spelled)
+stays_spelled s t (Line one ∷ []) exchanges spelled = absurd exchanges
+stays_spelled s t (Line one ∷ Line two ∷ events) exchanges spelled = absurd exchanges
+stays_spelled s t (Line one ∷ End ∷ events) exchanges spelled = absurd exchanges
+stays_spelled s t (Line one ∷ Failure ∷ events) exchanges spelled = absurd exchanges
+stays_spelled s t (End ∷ events) exchanges spelled = absurd exchanges
+stays_spelled s t (Text shown ∷ events) exchanges spelled = absurd exchanges
+stays_spelled s t (Failure ∷ events) exchanges spelled = absurd exchanges
 
 pub first_spelled : (form : Form) → IsSpelled (first_standing form)
 first_spelled form = record { begins = (omega arith, omega arith); steps = All-nil (λ (e : Accepted). FitsStepOf versions.Two e.step) }

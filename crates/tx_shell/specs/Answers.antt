@@ -25,7 +25,7 @@ use Rattle.tx_shell.specs.Attempts.{attempt_of, awaited_child}
 use Rattle.tx_shell.specs.Changes.{shown_at, FindsLast, FindsNext}
 use Rattle.tx_shell.specs.Comparisons.{compared_at, differing_between, IsAmong}
 use Rattle.tx_shell.specs.Differences.{differing_without, views_differing}
-use Rattle.tx_shell.specs.Forms.{SaysAhead, SaysAnswer, SaysReply, TellsIn}
+use Rattle.tx_shell.specs.Forms.{SaysAhead, SaysAnswer, SaysReply, ReportsIn}
 use Rattle.tx_shell.specs.Held.{desc_held, held_desc, held_pipe, pipe_held, HeldDesc, HeldPipe}
 use Rattle.tx_shell.specs.Names.{forked, maker, names_at, names_by}
 use Rattle.tx_shell.specs.Origins.{start_in, grammar_of, Origin}
@@ -121,14 +121,14 @@ lets_go ask = false
 -- at the end a step is made: its reply is reported, and it is recorded where it was accepted
 pub record MakesStep (form : Form) (start : State) (p : Place) (step : Step) (text : List ℕ) (q : Place) : Type 0 where
   pub at_end : p.at ≡ length p.history
-  pub told : SaysReply form (length q.history) (answer (view start p.history) step) text
+  pub report : SaysReply form (length q.history) (answer (view start p.history) step) text
   pub recorded : q.history ≡ history_with p.history step (answer (view start p.history) step)
   pub after : q.at ≡ length q.history
 
 -- it is made nowhere else
 pub record LeavesStep (form : Form) (p : Place) (text : List ℕ) (q : Place) : Type 0 where
   pub inside : p.at < length p.history
-  pub told : SaysAhead form text
+  pub report : SaysAhead form text
   pub stays : q ≡ p
 
 abbrev pub AnswersStep : Form → State → Place → Step → List ℕ → Place → Type 0
@@ -141,7 +141,7 @@ IsWalked responded other = ⊥
 
 -- a command of the debugger responds as in a text for it, and leads to the same position
 pub record Walks (start : State) (p : Place) (command : Command) (found : Answer) (q : Place) : Type 0 where
-  pub told : IsWalked (command_response start p.history p.at command) found
+  pub report : IsWalked (command_response start p.history p.at command) found
   pub at : q.at ≡ position_after p.history p.at command
 
 -- a step would get that reply, and the state after it would differ by those lines
@@ -224,14 +224,14 @@ pub record Kept : Type 0 where
 
 -- what is asked for is done, and its answer is printed where it led, with the names of processes
 -- there, before steps are dropped and names are kept
-pub record AnswersAskIn (form : Form) (o : Origin) (p : Place) (before : Kept) (ask : Ask) (text : List ℕ) (q : Place) (behind : Kept) : Type 0 where
+pub record AnswersAskIn (form : Form) (o : Origin) (p : Place) (before : Kept) (ask : Ask) (text : List ℕ) (q : Place) (later : Kept) : Type 0 where
   pub found : Answer
   pub there : Place
   pub is : IsAnswer (start_in o) (first_steps p.at p.history) before.own p before.refused ask found there
   pub kept : there.history ≡ p.history
   pub says : SaysAnswer form o (names_at o.count there before.names) (first_steps there.at there.history) there found text
   pub after : q ≡ left_by (lets_go ask) there
-  pub names : behind ≡ record before { names = names_by ask there.at before.names }
+  pub names : later ≡ record before { names = names_by ask there.at before.names }
 
 -- what a line means is a step
 pub record IsStepLine (o : Origin) (words : List ℕ) (step : Step) : Type 0 where
@@ -249,7 +249,7 @@ pub record IsAskLine (o : Origin) (words : List ℕ) (ask : Ask) : Type 0 where
 pub record AnswersNeither (form : Form) (o : Origin) (p : Place) (line words text : List ℕ) (q : Place) : Type 0 where
   pub no_step : IsNoStep (grammar_of o.version) words
   pub no_ask : IsNoAsk o.version words
-  pub tells : TellsIn form line text
+  pub reports : ReportsIn form line text
   pub stays : q ≡ p
 
 -- the last steps of all processes, once it is known which one process has, where there is one of that number

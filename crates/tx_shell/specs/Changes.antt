@@ -77,12 +77,12 @@ pub record FindsNext (shown : ℕ → List ℕ) (p : Place) (found : Option Chan
   pub outcome : MatchOption found (StaysSame shown p q) (λ change. ChangesNext shown p change q)
 
 -- the step of that number is reported, and by which lines they differ
-pub record TellsStep (names : Names) (history : List Accepted) (number : ℕ) (before after text : List ℕ) : Type 0 where
+pub record ReportsStep (names : Names) (history : List Accepted) (number : ℕ) (before after text : List ℕ) : Type 0 where
   pub entry : Accepted
   pub made : slice_get (reverse history) (number - 1) ≡ Some entry
-  pub told : text ≡ codes "at " ++ (decimal number ++ (codes ": " ++ (step_made_text names entry.step ++ 10 ∷ differing before after)))
+  pub report : text ≡ codes "at " ++ (decimal number ++ (codes ": " ++ (step_made_text names entry.step ++ 10 ∷ differing before after)))
 
 -- what was found is reported: the step directly before the position, or that there is none
-abbrev pub TellsFound : Names → List Accepted → ℕ → Option Change → List ℕ → Type 0
-TellsFound names history at found text =
-    MatchOption found (text ≡ codes "at " ++ (decimal at ++ codes ": no change\n")) (λ change. TellsStep names history at (string_bytes change.before) (string_bytes change.after) text)
+abbrev pub ReportsFound : Names → List Accepted → ℕ → Option Change → List ℕ → Type 0
+ReportsFound names history at found text =
+    MatchOption found (text ≡ codes "at " ++ (decimal at ++ codes ": no change\n")) (λ change. ReportsStep names history at (string_bytes change.before) (string_bytes change.after) text)

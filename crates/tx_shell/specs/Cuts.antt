@@ -2,8 +2,8 @@
 use Rattle.std.specs.Prelude.{◌≡◌, ℕ, Bool, List, [], ◌++◌, take, is_some, Option, Some, None}
 use Rattle.tx_lines.specs.Schedule.{after_line, first_line}
 use Rattle.tx_translate.specs.MeantLines.{behind}
-use Rattle.tx_shell.specs.declared.talks.taking.Next.{Next}
-use Rattle.tx_shell.specs.declared.talks.taking.Next.TheVariants.{Ended, Nothing, Open}
+use Rattle.tx_shell.specs.declared.sessions.taking.Next.{Next}
+use Rattle.tx_shell.specs.declared.sessions.taking.Next.TheVariants.{Ended, Nothing, Open}
 
 -- the first line of a text, or of a long one as many bytes as a terminal hands on
 abbrev pub front_line : List ℕ → List ℕ

@@ -3,9 +3,9 @@ use Rattle.std.specs.Prelude.{◌≡◌, ◌≢◌, ◌⊎◌, ℕ, ◌+◌, ◌
 use Rattle.tx_translate.specs.MeantLines.{behind}
 use Rattle.tx_shell.specs.Cuts.{front_line}
 use Rattle.tx_shell.specs.Standings.{Answers, IsQuit, Standing, Stops}
-use Rattle.tx_shell.specs.declared.talks.TalkFault.{TalkFault}
-use Rattle.tx_shell.specs.declared.talks.TheConstants.{LINES}
-use Rattle.tx_shell.specs.declared.talks.TalkFault.TheVariants as faults
+use Rattle.tx_shell.specs.declared.sessions.ServeFault.{ServeFault}
+use Rattle.tx_shell.specs.declared.sessions.TheConstants.{LINES}
+use Rattle.tx_shell.specs.declared.sessions.ServeFault.TheVariants as faults
 
 -- a line came, there is no more, a text went, or the terminal failed
 pub data Event : Type 0 where
@@ -65,10 +65,10 @@ abbrev pub traffic_between : Option (List ℕ) → Option (List ℕ) → Bool �
 traffic_between left written prompts = record { log = None; coming = left; shown = unprompted prompts written }
 
 -- each line has its answer directly after it, and leads from one standing to another
-unfoldable pub Talks : Standing → List Event → Standing → Type 0
-Talks s [] t = t ≡ s
-Talks s (Line line ∷ Text text ∷ events) t = (r : Standing) × Answers s line text r × Talks r events t
-Talks s events t = ⊥
+unfoldable pub Exchanges : Standing → List Event → Standing → Type 0
+Exchanges s [] t = t ≡ s
+Exchanges s (Line line ∷ Text text ∷ events) t = (r : Standing) × Answers s line text r × Exchanges r events t
+Exchanges s events t = ⊥
 
 -- a line came, and a front of its answer went before the terminal failed
 pub record IsCutOff (s : Standing) (last : List Event) (t : Standing) : Type 0 where
@@ -90,7 +90,7 @@ lines_among (Failure ∷ events) = lines_among events
 -- how a session ends after so many lines, by its outcome: with the end of the lines, or one that
 -- asks for that; with a failure while a line is awaited, or while an answer is shown; with a line
 -- for which memory was refused; or after the most lines
-abbrev pub EndsBy : Standing → ℕ → List Event → Standing → Result (Unit {0}) TalkFault → Type 0
+abbrev pub EndsBy : Standing → ℕ → List Event → Standing → Result (Unit {0}) ServeFault → Type 0
 EndsBy s lines events t (Ok _) = (t ≡ s) × ((events ≡ End ∷ []) ⊎ ((line : List ℕ) × (events ≡ Line line ∷ []) × IsQuit s line))
 EndsBy s lines events t (Err faults.Reader) = (t ≡ s) × (events ≡ Failure ∷ [])
 EndsBy s lines events t (Err faults.Writer) = IsCutOff s events t
@@ -98,10 +98,10 @@ EndsBy s lines events t (Err faults.NoMemory) = (line : List ℕ) × (events ≡
 EndsBy s lines events t (Err faults.TooMany) = (t ≡ s) × (events ≡ []) × (lines ≡ LINES)
 
 -- a whole session: lines and their answers, and its end
-pub record IsTalk (s t : Standing) (before after : Traffic) (result : Result (Unit {0}) TalkFault) : Type 0 where
+pub record IsServed (s t : Standing) (before after : Traffic) (result : Result (Unit {0}) ServeFault) : Type 0 where
   pub answered : List Event
   pub last : List Event
   pub at : Standing
   pub events : Continues before (answered ++ last) after
-  pub talks : Talks s answered at
+  pub exchanges : Exchanges s answered at
   pub ends : EndsBy at (lines_among answered) last t result

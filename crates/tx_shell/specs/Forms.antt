@@ -13,7 +13,7 @@ use Rattle.tx_model.specs.View.{view}
 use Rattle.tx_script.specs.Debug.{first_steps, position_text, responded_in, response_text}
 use Rattle.tx_script.specs.JsonLines.{response_line}
 use Rattle.tx_shell.specs.Attempts.{child_member}
-use Rattle.tx_shell.specs.Changes.{TellsFound}
+use Rattle.tx_shell.specs.Changes.{ReportsFound}
 use Rattle.tx_shell.specs.Held.{desc_held, desc_members, desc_text, pipe_held, pipe_members, pipe_text}
 use Rattle.tx_shell.specs.Journals.{schedule_so_far, steps_listed, steps_made}
 use Rattle.tx_shell.specs.Members.{change_member, compared_members, not_compared_members, owner_member, owners_member, steps_member, why_members}
@@ -21,7 +21,7 @@ use Rattle.tx_shell.specs.Names.{names_member, Names}
 use Rattle.tx_shell.specs.Origins.{Origin, start_in}
 use Rattle.tx_shell.specs.Owners.{or_no_transaction, owner_line, owner_lines}
 use Rattle.tx_shell.specs.Places.{Place}
-use Rattle.tx_shell.specs.Whys.{TellsWhy}
+use Rattle.tx_shell.specs.Whys.{ReportsWhy}
 use Rattle.tx_shell.specs.declared.answers.answer.Answer.TheVariants as answers
 use Rattle.tx_shell.specs.declared.answers.answer.Answer.{Answer}
 use Rattle.tx_script.specs.declared.forms.Form.TheVariants.{Text, Json}
@@ -29,10 +29,10 @@ use Rattle.tx_script.specs.declared.forms.Form.{Form}
 use Rattle.tx_state_text.specs.Replies.{named_reply_text}
 
 -- what is wrong with the line, between a mark and the line's end
-pub record TellsOf (line text : List ℕ) : Type 0 where
-  pub told : List ℕ
-  pub wrong : IsSessionDiagnostic line told
-  pub says : text ≡ codes "? " ++ (told ++ 10 ∷ [])
+pub record ReportsOf (line text : List ℕ) : Type 0 where
+  pub report : List ℕ
+  pub wrong : IsSessionDiagnostic line report
+  pub says : text ≡ codes "? " ++ (report ++ 10 ∷ [])
 
 -- the answer to a line without a word
 abbrev pub SaysNothing : Form → List ℕ → Type 0
@@ -55,9 +55,9 @@ SaysAhead Text text = text ≡ codes "no: steps are ahead; cut lets go of them, 
 SaysAhead Json text = IsLineOf (error_answer (codes "steps are ahead; cut lets go of them, forward makes them again")) text
 
 -- what is wrong with a line
-abbrev pub TellsIn : Form → List ℕ → List ℕ → Type 0
-TellsIn Text line text = TellsOf line text
-TellsIn Json line text = (told : List ℕ) × IsSessionDiagnostic line told × IsLineOf (error_answer told) text
+abbrev pub ReportsIn : Form → List ℕ → List ℕ → Type 0
+ReportsIn Text line text = ReportsOf line text
+ReportsIn Json line text = (report : List ℕ) × IsSessionDiagnostic line report × IsLineOf (error_answer report) text
 
 -- a step that was found to change a piece is directly before the position
 abbrev pub IsPlaced : ℕ → Answer → Type 0
@@ -66,28 +66,28 @@ IsPlaced at answer = Unit {0}
 
 -- the text of a schedule whose steps lead, from the start, to the history up to the position
 pub record PrintsSchedule (o : Origin) (p : Place) (text : List ℕ) : Type 0 where
-  pub told : text ≡ schedule_so_far o p
+  pub report : text ≡ schedule_so_far o p
   pub leads : history_of (start_in o) [] (steps_made p) ≡ first_steps p.at p.history
 
 -- an answer as text, at a place up to which the steps of the history h are made, where processes have those names
-abbrev pub TellsAnswer : Origin → Names → List Accepted → Place → Answer → List ℕ → Type 0
-TellsAnswer o names h p (answers.Walked response) text = text ≡ response_text (start_in o) p.history p.at (responded_in response)
-TellsAnswer o names h p answers.Position text = text ≡ position_text p.at
-TellsAnswer o names h p (answers.Steps first last) text = text ≡ steps_listed p first last
-TellsAnswer o names h p answers.Schedule text = PrintsSchedule o p text
-TellsAnswer o names h p (answers.Trial reply differences) text = text ≡ named_reply_text reply ++ 10 ∷ string_bytes differences
-TellsAnswer o names h p (answers.Without starter None) text = text ≡ codes "no transaction\n"
-TellsAnswer o names h p (answers.Without starter (Some differences)) text = text ≡ string_bytes differences
-TellsAnswer o names h p (answers.Diff from to None) text = text ≡ codes "no place\n"
-TellsAnswer o names h p (answers.Diff from to (Some differences)) text = text ≡ string_bytes differences
-TellsAnswer o names h p (answers.Change found) text = TellsFound names p.history p.at found text
-TellsAnswer o names h p (answers.Why step reply attempt) text = TellsWhy names (start_in o) h step attempt reply text
-TellsAnswer o names h p answers.NothingRefused text = text ≡ codes "nothing was refused\n"
-TellsAnswer o names h p answers.Owners text = text ≡ or_no_transaction (owner_lines names (view (start_in o) h))
-TellsAnswer o names h p (answers.OwnersOf starter) text = text ≡ or_no_transaction (owner_line names (view (start_in o) h) starter)
-TellsAnswer o names h p (answers.PipeHolders found) text = text ≡ pipe_text names (option_map pipe_held found)
-TellsAnswer o names h p (answers.DescHolders found) text = text ≡ desc_text names (option_map desc_held found)
-TellsAnswer o names h p (answers.Page page) text = text ≡ page.now
+abbrev pub ReportsAnswer : Origin → Names → List Accepted → Place → Answer → List ℕ → Type 0
+ReportsAnswer o names h p (answers.Walked response) text = text ≡ response_text (start_in o) p.history p.at (responded_in response)
+ReportsAnswer o names h p answers.Position text = text ≡ position_text p.at
+ReportsAnswer o names h p (answers.Steps first last) text = text ≡ steps_listed p first last
+ReportsAnswer o names h p answers.Schedule text = PrintsSchedule o p text
+ReportsAnswer o names h p (answers.Trial reply differences) text = text ≡ named_reply_text reply ++ 10 ∷ string_bytes differences
+ReportsAnswer o names h p (answers.Without starter None) text = text ≡ codes "no transaction\n"
+ReportsAnswer o names h p (answers.Without starter (Some differences)) text = text ≡ string_bytes differences
+ReportsAnswer o names h p (answers.Diff from to None) text = text ≡ codes "no place\n"
+ReportsAnswer o names h p (answers.Diff from to (Some differences)) text = text ≡ string_bytes differences
+ReportsAnswer o names h p (answers.Change found) text = ReportsFound names p.history p.at found text
+ReportsAnswer o names h p (answers.Why step reply attempt) text = ReportsWhy names (start_in o) h step attempt reply text
+ReportsAnswer o names h p answers.NothingRefused text = text ≡ codes "nothing was refused\n"
+ReportsAnswer o names h p answers.Owners text = text ≡ or_no_transaction (owner_lines names (view (start_in o) h))
+ReportsAnswer o names h p (answers.OwnersOf starter) text = text ≡ or_no_transaction (owner_line names (view (start_in o) h) starter)
+ReportsAnswer o names h p (answers.PipeHolders found) text = text ≡ pipe_text names (option_map pipe_held found)
+ReportsAnswer o names h p (answers.DescHolders found) text = text ≡ desc_text names (option_map desc_held found)
+ReportsAnswer o names h p (answers.Page page) text = text ≡ page.now
 
 -- what JSON has of an answer after the lines of its text
 abbrev pub answer_members : State → List Accepted → Place → Answer → List Token
@@ -121,9 +121,9 @@ members_and_names start names h p answer = answer_members start h p answer ++ (i
 
 -- the position, those lines, and that
 pub record SaysLines (o : Origin) (names : Names) (h : List Accepted) (p : Place) (answer : Answer) (text : List ℕ) : Type 0 where
-  pub told : List ℕ
-  pub tells : TellsAnswer o names h p answer told
-  pub says : IsLineOf (lines_with p.at told (members_and_names (start_in o) names h p answer)) text
+  pub report : List ℕ
+  pub reports : ReportsAnswer o names h p answer report
+  pub says : IsLineOf (lines_with p.at report (members_and_names (start_in o) names h p answer)) text
 
 -- an answer as JSON: of a command of the debugger the line that a text for it has, of a trial the reply and the lines that differ, of a cut the position,
 -- and of all else the lines of its text
@@ -135,5 +135,5 @@ SaysJson o names h p answer text = SaysLines o names h p answer text
 
 -- an answer in a form
 abbrev pub SaysAnswer : Form → Origin → Names → List Accepted → Place → Answer → List ℕ → Type 0
-SaysAnswer Text o names h p answer text = TellsAnswer o names h p answer text
+SaysAnswer Text o names h p answer text = ReportsAnswer o names h p answer text
 SaysAnswer Json o names h p answer text = SaysJson o names h p answer text

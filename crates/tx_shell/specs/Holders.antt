@@ -16,7 +16,7 @@ use Rattle.tx_model.specs.Footprints.{footprint}
 use Rattle.tx_model.specs.State.{Description, Process, Side, ReadSide, State, WriteSide, has_object, side_in}
 use Rattle.tx_model.specs.View.{View, present}
 use Rattle.tx_waits.specs.Kinds.{limit_of, object_in}
-use Rattle.tx_shell.specs.Names.{behind_number, Names}
+use Rattle.tx_shell.specs.Names.{after_number, Names}
 use Rattle.tx_waits.specs.declared.holders.Sought.{Sought}
 use Rattle.tx_waits.specs.declared.holders.Sought.TheVariants.{Desc, End}
 use Rattle.tx_waits.specs.declared.kinds.Kind.TheVariants.{Pipes, Processes}
@@ -34,7 +34,7 @@ nobody_line side = codes "nobody has its " ++ (side_word side ++ codes " side op
 module _ (names : Names) where
   -- a descriptor of a process
   abbrev pub holder_text : Holder → List ℕ
-  holder_text holder = decimal holder.descriptor ++ (codes " of process " ++ (decimal holder.process ++ behind_number (names holder.process)))
+  holder_text holder = decimal holder.descriptor ++ (codes " of process " ++ (decimal holder.process ++ after_number (names holder.process)))
 
   -- and of another
   abbrev pub next_text : Holder → List ℕ

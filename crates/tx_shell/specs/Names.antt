@@ -70,13 +70,13 @@ names_by asks.Cut at given = filter (λ (one : NameAt). nat_le one.position at) 
 names_by ask at given = given
 
 -- a name after the number of its process, and after the text of a step that it makes
-abbrev pub behind_number : Option (List ℕ) → List ℕ
-behind_number None = []
-behind_number (Some name) = 32 ∷ name
+abbrev pub after_number : Option (List ℕ) → List ℕ
+after_number None = []
+after_number (Some name) = 32 ∷ name
 
-abbrev pub behind_step : Option (List ℕ) → List ℕ
-behind_step None = []
-behind_step (Some name) = codes " (" ++ (name ++ codes ")")
+abbrev pub after_step : Option (List ℕ) → List ℕ
+after_step None = []
+after_step (Some name) = codes " (" ++ (name ++ codes ")")
 
 -- the process that makes a step: none makes one of the kernel
 abbrev pub maker : Step → Option ℕ
@@ -111,7 +111,7 @@ module _ (names : Names) where
 
   -- a step, and who makes it
   abbrev pub step_made_text : Step → List ℕ
-  step_made_text step = step_text step ++ behind_step (maker_name step)
+  step_made_text step = step_text step ++ after_step (maker_name step)
 
   -- whether one of the processes below a number has a name
   unfoldable pub has_name : ℕ → Bool

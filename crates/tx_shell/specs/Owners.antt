@@ -4,14 +4,14 @@ use Rattle.std.specs.Fmt.{decimal}
 use Rattle.tx_model.specs.Membership.{is_live}
 use Rattle.tx_model.specs.View.{View}
 use Rattle.tx_waits.specs.Kinds.{limit_of, object_in, word_of}
-use Rattle.tx_shell.specs.Names.{behind_number, kind_name, Names}
+use Rattle.tx_shell.specs.Names.{after_number, kind_name, Names}
 use Rattle.tx_waits.specs.declared.kinds.Kind.{Kind}
 use Rattle.tx_waits.specs.declared.kinds.Kind.TheVariants.{Processes, Descriptions, Pipes}
 use Rattle.tx_state_text.specs.Each.{upto}
 
 -- the number of an object, and after that of a process its name
 abbrev pub number_said : Names → Kind → ℕ → List ℕ
-number_said names kind number = decimal number ++ behind_number (kind_name names kind number)
+number_said names kind number = decimal number ++ after_number (kind_name names kind number)
 
 -- numbers as they are printed, each after a comma
 abbrev pub more_said : (ℕ → List ℕ) → List ℕ → List ℕ
@@ -47,7 +47,7 @@ module _ (names : Names) (V : View) where
   abbrev pub owner_line : ℕ → List ℕ
   owner_line s =
       if is_live V.table s
-      then codes "owns " ++ (decimal s ++ (behind_number (names s) ++ (owned_text s Processes ++ (owned_text s Descriptions ++ (owned_text s Pipes ++ 10 ∷ []))))) else []
+      then codes "owns " ++ (decimal s ++ (after_number (names s) ++ (owned_text s Processes ++ (owned_text s Descriptions ++ (owned_text s Pipes ++ 10 ∷ []))))) else []
 
   -- the lines of all live transactions, by their rising starters
   abbrev pub owner_lines : List ℕ

@@ -18,7 +18,7 @@ use Rattle.tx_shell.specs.Blockers.{blocked, blocked_by, blocked_of, names_one, 
 use Rattle.tx_shell.specs.Holders.{holders_line}
 use Rattle.tx_waits.specs.Holders.{awaited_by, side_holders}
 use Rattle.tx_waits.specs.Kinds.{limit_of, word_of}
-use Rattle.tx_shell.specs.Names.{behind_number, computed_name, kind_name, step_made_text, Names}
+use Rattle.tx_shell.specs.Names.{after_number, computed_name, kind_name, step_made_text, Names}
 use Rattle.tx_waits.specs.declared.kinds.Kind.{Kind}
 use Rattle.tx_waits.specs.declared.kinds.Kind.TheVariants.{Pipes, Processes}
 use Rattle.tx_shell.specs.declared.questions.reasons.Reason.{Reason}
@@ -45,7 +45,7 @@ name_text kind number = word_of kind ++ decimal number
 -- what a step waits for: a child's end, a byte in a pipe, or room for all its bytes; by the lines of the pipes that it names, and of who has their other
 -- side open
 abbrev pub waited_by : Names → (List ℕ → List ℕ) → (Side → List ℕ) → Step → List ℕ
-waited_by names pipes who (steps.Call p (calls.Waitpid child nohang)) = codes "proc " ++ (signed_decimal child ++ (behind_number (computed_name names child) ++ codes " has not ended\n"))
+waited_by names pipes who (steps.Call p (calls.Waitpid child nohang)) = codes "proc " ++ (signed_decimal child ++ (after_number (computed_name names child) ++ codes " has not ended\n"))
 waited_by names pipes who (steps.Call p (calls.Read fd address count)) = pipes (codes " has no byte\n") ++ who WriteSide
 waited_by names pipes who (steps.Call p (calls.Write fd address count)) = pipes (codes " has too little room\n") ++ who ReadSide
 waited_by names pipes who other = []
@@ -53,8 +53,8 @@ waited_by names pipes who other = []
 -- the line of an object in the way
 abbrev pub blocked_line : Names → Blocked → List ℕ
 blocked_line names b =
-    name_text b.kind b.number ++ (behind_number (kind_name names b.kind b.number) ++ (codes ": the transaction of "
-    ++ (decimal b.owner ++ (behind_number (names b.owner) ++ (codes " has it" ++ (since_text names b.since ++ 10 ∷ []))))))
+    name_text b.kind b.number ++ (after_number (kind_name names b.kind b.number) ++ (codes ": the transaction of "
+    ++ (decimal b.owner ++ (after_number (names b.owner) ++ (codes " has it" ++ (since_text names b.since ++ 10 ∷ []))))))
 
 -- what is answered, with the name of an error
 abbrev pub named_text : ℤ → List ℕ
@@ -63,9 +63,9 @@ named_text x = signed_decimal x ++ spaced_name (error_name x)
 -- the line of a signal to s that has two answers: which it is, how it would be answered now, and how after an abort
 abbrev pub twice_line : Names → ℕ → TwoAnswers → List ℕ
 twice_line names s twice =
-    (codes "signal " ++ (decimal twice.signo.0 ++ (codes " to " ++ (decimal s ++ (behind_number (names s) ++ codes ": it would be answered ")))))
+    (codes "signal " ++ (decimal twice.signo.0 ++ (codes " to " ++ (decimal s ++ (after_number (names s) ++ codes ": it would be answered ")))))
     ++ (named_text twice.present ++ (codes " now, and " ++ (named_text twice.after_abort
-    ++ (codes " if the transaction of " ++ (decimal s ++ (behind_number (names s) ++ codes " were aborted\n"))))))
+    ++ (codes " if the transaction of " ++ (decimal s ++ (after_number (names s) ++ codes " were aborted\n"))))))
 
 abbrev pub twice_line_if : Names → ℕ → Option TwoAnswers → List ℕ
 twice_line_if names s None = []

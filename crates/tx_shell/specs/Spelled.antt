@@ -3,7 +3,7 @@ use Rattle.std.specs.Prelude.{◌≤◌, All, length, List}
 use Rattle.tx_base.specs.declared.steps.Accepted.{Accepted}
 use Rattle.tx_lines.specs.Lines.{FitsHeader}
 use Rattle.tx_lines.specs.Schedule.{FitsStepOf, IsSchedule}
-use Rattle.tx_shell.specs.Events.{Event, Talks}
+use Rattle.tx_shell.specs.Events.{Event, Exchanges}
 use Rattle.tx_shell.specs.Journals.{steps_made}
 use Rattle.tx_shell.specs.Origins.{header_in, grammar_of}
 use Rattle.tx_shell.specs.Standings.{Standing}
@@ -20,7 +20,7 @@ pub record IsSpelled (s : Standing) : Type 0 where
 
 -- that stays so while lines are answered
 abbrev pub StaysSpelled : Type 0
-StaysSpelled = (s t : Standing) (events : List Event) → Talks s events t → IsSpelled s → IsSpelled t
+StaysSpelled = (s t : Standing) (events : List Event) → Exchanges s events t → IsSpelled s → IsSpelled t
 
 -- the steps up to the position are those of a schedule, as long as they are no more than a text can hold
 abbrev pub SpellsSchedule : Type 0

@@ -48,7 +48,7 @@ first_standing form = record { form = form; origin = record { version = Three; w
 pub record Opens (s : Standing) (line text : List ℕ) (t : Standing) : Type 0 where
   pub fresh : s.is_fresh ≡ true
   pub says : SaysOrigin line t.origin
-  pub told : SaysPosition s.form 0 text
+  pub report : SaysPosition s.form 0 text
   pub form : t.form ≡ s.form
   pub begun : t.is_fresh ≡ false
   pub place : t.place ≡ at_start

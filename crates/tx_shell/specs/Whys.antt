@@ -16,18 +16,18 @@ use Rattle.tx_state_text.specs.Replies.{named_reply_text}
 module _ (names : Names) (S : State) (h : List Accepted) (step : Step) (attempt : Option Attempt) where
   -- of a step that is refused: the facts, the last refused step of the child that it waits for, and
   -- the page that help has on the refusal
-  pub record TellsRefusal (why : Refusal) (behind : List ℕ) : Type 0 where
+  pub record ReportsRefusal (why : Refusal) (after : List ℕ) : Type 0 where
     pub page : List ℕ
     pub helps : HelpsOn (refusal_word why) page
-    pub told : behind ≡ fact_lines names S h step why ++ (attempt_text names S h attempt ++ page)
+    pub report : after ≡ fact_lines names S h step why ++ (attempt_text names S h attempt ++ page)
 
   -- what is reported after a reply: nothing where the step is not refused
-  abbrev pub TellsReason : Reply → List ℕ → Type 0
-  TellsReason (No why) behind = TellsRefusal why behind
-  TellsReason reply behind = behind ≡ []
+  abbrev pub ReportsReason : Reply → List ℕ → Type 0
+  ReportsReason (No why) after = ReportsRefusal why after
+  ReportsReason reply after = after ≡ []
 
   -- the step, and after it that it would get this reply, and why it would be refused
-  pub record TellsWhy (reply : Reply) (text : List ℕ) : Type 0 where
+  pub record ReportsWhy (reply : Reply) (text : List ℕ) : Type 0 where
     pub reason : List ℕ
-    pub told : text ≡ step_made_text names step ++ (codes ": it would be answered " ++ (named_reply_text reply ++ 10 ∷ reason))
-    pub why : TellsReason reply reason
+    pub report : text ≡ step_made_text names step ++ (codes ": it would be answered " ++ (named_reply_text reply ++ 10 ∷ reason))
+    pub why : ReportsReason reply reason

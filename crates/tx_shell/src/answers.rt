@@ -15,15 +15,15 @@ pub mod forms;
 pub mod helps;
 pub mod journals;
 pub mod refused;
+pub mod reports;
 pub mod reserving;
 pub mod steps;
-pub mod tells;
 
 use crate::answers::answer::{Answer, find_answer};
 use crate::answers::forms::say_answer;
 use crate::answers::refused::Refused;
+use crate::answers::reports::report_in;
 use crate::answers::steps::answer_step;
-use crate::answers::tells::tell_in;
 use crate::lines::asks::{Ask, read_ask};
 use crate::lines::versions::TextVersion;
 use crate::names::{Given, Names, forked_by, keep_names, maker_of};
@@ -79,7 +79,7 @@ impl Interpreter {
             *text = self.answer_ask(alloc, ask)?;
             return Ok(());
         }
-        *text = tell_in(alloc, self.form, self.version, line)?;
+        *text = report_in(alloc, self.form, self.version, line)?;
         Ok(())
     }
 

@@ -5,7 +5,7 @@ ghost use Rattle.tx_script.specs.declared.forms.Form.{Form};
 
 /// A session has only steps that a text of its version can hold, so what `text` prints is the text
 /// of a schedule, as `replay` reads it, as long as it has no more steps than a text may have.
-pub fn a_talk_spells_a_schedule()
+pub fn a_session_spells_a_schedule()
     ensures first { (form : Form) → IsSpelled (first_standing form) }
     ensures stays { StaysSpelled }
     ensures schedule { SpellsSchedule }

@@ -27,12 +27,12 @@ mod laws;
 mod lines;
 mod names;
 mod questions;
+mod sessions;
 mod shell;
-mod talks;
 
-pub use laws::a_talk_spells_a_schedule;
+pub use laws::a_session_spells_a_schedule;
 pub use lines::versions::TextVersion;
+pub use sessions::console::Console;
+pub use sessions::terminal::{Got, Terminal};
+pub use sessions::{ServeFault, serve};
 pub use shell::Shell;
-pub use talks::console::Console;
-pub use talks::terminal::{Got, Terminal};
-pub use talks::{TalkFault, talk};

@@ -2,7 +2,7 @@
 ghost use Rattle.std.specs.Prelude.{◌≡◌, ◌++◌, OnErr, OnOk, Some, count_by, map, option_map, string_bytes, take};
 ghost use Rattle.tx_journal.specs.Entries.{accepted_of, history_of};
 ghost use Rattle.tx_model.specs.Processes.{pid_of};
-ghost use Rattle.tx_shell.specs.Names.{behind_number, behind_step, computed_name, forked, given_as, is_given_to, is_it, kind_name, maker, maker_name, named, names_by, process_there, step_made_text};
+ghost use Rattle.tx_shell.specs.Names.{after_number, after_step, computed_name, forked, given_as, is_given_to, is_it, kind_name, maker, maker_name, named, names_by, process_there, step_made_text};
 
 use crate::lines::asks::Ask;
 use std::alloc::{AllocError, Global};
@@ -188,10 +188,10 @@ pub fn put_step_made(text: &mut String, names: Names<'_>, step: &Step) -> Result
 
 /// A name after the number of its process, or nothing.
 #[derive(Clone, Copy)]
-pub struct Behind<'a>(pub Option<&'a str>);
+pub struct Suffix<'a>(pub Option<&'a str>);
 
-impl fmt::Display for Behind<'_> {
-    ghost output = { λ name. Some (behind_number (option_map (λ name. name.now) name.0)) };
+impl fmt::Display for Suffix<'_> {
+    ghost output = { λ name. Some (after_number (option_map (λ name. name.now) name.0)) };
 
     fn fmt<W: fmt::Write>(&self, f: &mut fmt::Formatter<W>) -> fmt::Result {
         match self.0 {
@@ -206,7 +206,7 @@ impl fmt::Display for Behind<'_> {
 pub struct Bracketed<'a>(pub Option<&'a str>);
 
 impl fmt::Display for Bracketed<'_> {
-    ghost output = { λ name. Some (behind_step (option_map (λ name. name.now) name.0)) };
+    ghost output = { λ name. Some (after_step (option_map (λ name. name.now) name.0)) };
 
     fn fmt<W: fmt::Write>(&self, f: &mut fmt::Formatter<W>) -> fmt::Result {
         match self.0 {

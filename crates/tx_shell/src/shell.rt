@@ -184,7 +184,7 @@ impl Shell {
     #[inline(never)] // as `answer_meaning`
     fn open(&mut self, alloc: Global, opening: Opening) -> Result<String, NoMemory>
         requires { FitsHeader opening.header }
-        ensures told { IfOk result (λ text. SaysPosition self.old.interpreter.form 0 (string_bytes text)) }
+        ensures report { IfOk result (λ text. SaysPosition self.old.interpreter.form 0 (string_bytes text)) }
         ensures begun { OnOk result (standing_of self.new ≡ begun_by self.old.interpreter.form (origin_said opening)) }
         ensures refused { OnErr result (self.new ≡ self.old) }
     {

@@ -6,7 +6,7 @@ use Rattle.std.proofs.Math.ListN.{drop_of_length-le}
 use Rattle.std.specs.Prelude.{slice_get}
 use Rattle.tx_workers.specs.RunText.{numbered}
 
--- the lines of the first i things stand behind what there was before
+-- the lines of the first i things are after what there was before
 abbrev pub NumberedSoFar : {A : Type 0} → (ℕ → A → List ℕ) → List A → List ℕ → List ℕ → ℕ → Type 0
 NumberedSoFar line items before text i = before ++ numbered line 1 items ≡ text ++ numbered line (i + 1) (drop i items)
 

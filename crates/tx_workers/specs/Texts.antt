@@ -49,9 +49,9 @@ RunsFrom left reads workers turns (Err (Work why)) reads' = IsLostRun left worke
 -- a program is read, and the report of its run is written, or a front of it, or nothing, as the
 -- fault says
 abbrev pub RunsText : (SessionState → List ℕ) → Option (List ℕ) → Counts → Option (List ℕ) → Counts → ℕ → ℕ → Result (Unit {0}) RunFault → Counts → Option (List ℕ) → Counts → Type 0
-RunsText told left reads written writes workers turns (Ok _) reads' written' writes' =
-    ((session : SessionState) × IsRunOf left workers turns session × Appends written written' (told session)) × IsCalm reads reads' × IsCalm writes writes'
-RunsText told left reads written writes workers turns (Err (Text fault.Writer)) reads' written' writes' =
-    (session : SessionState) × IsRunOf left workers turns session × WritesWhole written writes (told session) (Err fault.Writer) written' writes'
-RunsText told left reads written writes workers turns (Err (Text why)) reads' written' writes' = MeansProgramFrom left reads (Err why) reads' × Keeps written written'
-RunsText told left reads written writes workers turns (Err (Work why)) reads' written' writes' = IsLostRun left workers why × IsCalm reads reads' × Keeps written written'
+RunsText report left reads written writes workers turns (Ok _) reads' written' writes' =
+    ((session : SessionState) × IsRunOf left workers turns session × Appends written written' (report session)) × IsCalm reads reads' × IsCalm writes writes'
+RunsText report left reads written writes workers turns (Err (Text fault.Writer)) reads' written' writes' =
+    (session : SessionState) × IsRunOf left workers turns session × WritesWhole written writes (report session) (Err fault.Writer) written' writes'
+RunsText report left reads written writes workers turns (Err (Text why)) reads' written' writes' = MeansProgramFrom left reads (Err why) reads' × Keeps written written'
+RunsText report left reads written writes workers turns (Err (Work why)) reads' written' writes' = IsLostRun left workers why × IsCalm reads reads' × Keeps written written'

@@ -182,10 +182,10 @@ begins_negative [] = false
 begins_negative (first ∷ []) = false
 begins_negative (first ∷ second ∷ rest) = first == 45 && is_ascii_digit second
 
-abbrev pub number_behind : Text → Text → Option Text
-number_behind command word = if bytes_eq command (codes "explain") && begins_negative word then Some word else None
+abbrev pub number_after : Text → Text → Option Text
+number_after command word = if bytes_eq command (codes "explain") && begins_negative word then Some word else None
 
 -- the number with `-` before it that words ask to explain
 abbrev pub asked_number : List Text → Option Text
-asked_number (name ∷ command ∷ word ∷ []) = number_behind command word
+asked_number (name ∷ command ∷ word ∷ []) = number_after command word
 asked_number words = None

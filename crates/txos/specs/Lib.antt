@@ -1,2 +1,2 @@
 pub mod CommandLine
-pub mod RunsTold
+pub mod RunReports

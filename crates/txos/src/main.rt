@@ -1,7 +1,7 @@
 //! The program: reads its words, and then a text.
 //!
 //! `main` is thin: it reads the words with `clap`, calls `replay`, `debug`, `write_json`,
-//! `picture`, `talk`, `check_for` or `write_plain` over the standard streams, or writes what a word
+//! `picture`, `serve`, `check_for` or `write_plain` over the standard streams, or writes what a word
 //! means or what a run did (`runs.rt`), and answers a status.
 #![tactic(auto)]
 
@@ -27,7 +27,7 @@ use tx_explain::{explain, listing, nearest};
 use tx_lines::{Fault, OverRead, OverWrite, Sink, Source, write_whole};
 use tx_picture::picture;
 use tx_script::{Form, debug, replay, write_json};
-use tx_shell::{Console, Shell, TalkFault, talk};
+use tx_shell::{Console, ServeFault, Shell, serve};
 use tx_translate::write_plain;
 use words::{
     Asked, CHECK_USAGE, JSON_USAGE, PICTURE_USAGE, VERSION_LINES, number_asked, read_words,
@@ -55,7 +55,7 @@ fn main(rt: HostRuntime) -> ExitCode {
     };
     if let Some(word) = number_asked(words.as_slice()) {
         let mut sink = OverWrite::new(io::writer(&rt));
-        return tell(&rt, rt.alloc(), Some(word), &mut sink);
+        return explain_word(&rt, rt.alloc(), Some(word), &mut sink);
     }
     match read_words(rt.alloc(), words.as_slice()) {
         Ok(asked) => {
@@ -112,7 +112,7 @@ where
         Asked::Check(reader) => status_of_check(rt, check_for(alloc, reader, source, sink)),
         Asked::NoReader(word) => no_reader(rt, word),
         Asked::Plain => status_of(rt, write_plain(alloc, source, sink)),
-        Asked::Explain(word) => tell(rt, alloc, word, sink),
+        Asked::Explain(word) => explain_word(rt, alloc, word, sink),
         Asked::Version => status_of(rt, write_whole(sink, VERSION_LINES.as_bytes())),
     }
 }
@@ -124,28 +124,28 @@ fn converse(
     alloc: Global,
     form: Form,
     prompts: bool,
-) -> Result<(), TalkFault> {
+) -> Result<(), ServeFault> {
     let Ok(reader) = BufReader::new(alloc, rt.reader()) else {
-        return Err(TalkFault::NoMemory);
+        return Err(ServeFault::NoMemory);
     };
     let Ok(shell) = Shell::new(alloc, form) else {
-        return Err(TalkFault::NoMemory);
+        return Err(ServeFault::NoMemory);
     };
     let Ok(shell) = Box::new(alloc, shell) else {
-        return Err(TalkFault::NoMemory);
+        return Err(ServeFault::NoMemory);
     };
     let prompts = prompts && matches!(form, Form::Text);
     let mut console = Console::new(reader, io::writer(rt), prompts);
     if !console.greet() {
-        return Err(TalkFault::Writer);
+        return Err(ServeFault::Writer);
     }
     // The program ends with the session, and the system takes back at once what the steps left.
-    talk(alloc, Box::leak(shell), &mut console)
+    serve(alloc, Box::leak(shell), &mut console)
 }
 
 /// Writes what a word means, or without one the list of all words. A word that is not explained is
 /// reported, with the status of words that can't be read.
-fn tell<R, W>(rt: &R, alloc: Global, word: Option<&str>, sink: &mut W) -> ExitCode
+fn explain_word<R, W>(rt: &R, alloc: Global, word: Option<&str>, sink: &mut W) -> ExitCode
 where
     R: Eprint,
     W: Sink,

@@ -2,7 +2,7 @@
 ghost use Rattle.tx_lines.specs.Ends.{IsFresh};
 ghost use Rattle.tx_workers.specs.RunText.{WritesText};
 ghost use Rattle.tx_workers.specs.Texts.{RunsText};
-ghost use Rattle.txos.specs.RunsTold.{told_in};
+ghost use Rattle.txos.specs.RunReports.{report_in};
 
 use crate::words::Crew;
 use std::alloc::Global;
@@ -32,7 +32,7 @@ where
     W: Sink,
     requires source { IsFresh (S.counts source.old) }
     requires sink { IsFresh (W.counts sink.old) }
-    ensures { RunsText (told_in form) (S.left source.old) (S.counts source.old)
+    ensures { RunsText (report_in form) (S.left source.old) (S.counts source.old)
         (W.written sink.old) (W.counts sink.old) crew.workers crew.turns result
         (S.counts source.new) (W.written sink.new) (W.counts sink.new) }
 {
@@ -55,7 +55,7 @@ fn write_in<W: Sink>(
     sink: &mut W,
 ) -> Result<(), Fault>
     requires { IsFresh (W.counts sink.old) }
-    ensures { WritesText (W.written sink.old) (W.counts sink.old) (told_in form session.now) result
+    ensures { WritesText (W.written sink.old) (W.counts sink.old) (report_in form session.now) result
         (W.written sink.new) (W.counts sink.new) }
 {
     match form {

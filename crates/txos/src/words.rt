@@ -5,7 +5,7 @@ ghost use Rattle.clap.specs.Simple.{subcommand_rows_of};
 ghost use Rattle.clap.specs.Walk.{rule_of};
 ghost use Rattle.clap.specs.declared.builder.command.Command.TheViews.{out-Command};
 ghost use Rattle.txos.specs.CommandLine.{asked_number, begins_negative, check_line, command_line, explain_line, is_any, json_line};
-ghost use Rattle.txos.specs.CommandLine.{IsAskedIn, IsFormOf, name_of, named, number_behind, number_option, reader_named, run_line};
+ghost use Rattle.txos.specs.CommandLine.{IsAskedIn, IsFormOf, name_of, named, number_after, number_option, reader_named, run_line};
 ghost use Rattle.txos.specs.CommandLine.{command_names, picture_line, run_commands, schedule_commands, shell_line, text_commands, text_in, text_line, top_line, SomeOneOf};
 
 use clap::error::Error;
@@ -131,14 +131,14 @@ pub fn number_asked(words: &[String]) -> Option<&str>
     ensures { option_map (λ word. word.now) result ≡ asked_number (map string_bytes words.now) }
 {
     match words {
-        [_, command, word] => number_behind(command.as_str(), word.as_str()),
+        [_, command, word] => number_after(command.as_str(), word.as_str()),
         _ => None,
     }
 }
 
 /// The word, where it is a number with `-` before it after `explain`.
-fn number_behind<'a>(command: &str, word: &'a str) -> Option<&'a str>
-    ensures { option_map (λ word. word.now) result ≡ number_behind command.now word.entry.now }
+fn number_after<'a>(command: &str, word: &'a str) -> Option<&'a str>
+    ensures { option_map (λ word. word.now) result ≡ number_after command.now word.entry.now }
 {
     if command == "explain" && is_negative(word) {
         return Some(word);
@@ -336,95 +336,95 @@ fn top_command<'a>(alloc: Global) -> Command<'a>
 /// What help says of a command: a line of what it does, how it is called, with a text as a file where it
 /// reads one, and an example.
 #[derive(Clone, Copy)]
-struct Told {
+struct Help {
     about: &'static str,
     usage: &'static str,
     example: &'static str,
 }
 
-const REPLAY: Told = Told {
+const REPLAY: Help = Help {
     about: "Reads a schedule from standard input, and writes its replies and the last state",
     usage: "txos replay < FILE",
     example: "Example: txos replay < examples/first.txos",
 };
 
-const DEBUG: Told = Told {
+const DEBUG: Help = Help {
     about: "Reads a schedule and commands from standard input, and walks back and forward",
     usage: "txos debug < FILE",
     example: "Example: txos debug < examples/commit_and_abort.walk",
 };
 
-const JSON: Told = Told {
+const JSON: Help = Help {
     about: "Reads a schedule, maybe with commands, or runs a program, and answers in JSON",
     usage: JSON_USAGE,
     example: "Example: txos json < examples/first.txos",
 };
 
-const PICTURE: Told = Told {
+const PICTURE: Help = Help {
     about: "Reads a schedule from standard input, and writes a picture of it in SVG",
     usage: PICTURE_USAGE,
     example: "Example: txos picture < examples/first.txos > first.svg",
 };
 
-const EXPECT: Told = Told {
+const EXPECT: Help = Help {
     about: "Reads a schedule, and says which replies are not those that its comments expect",
     usage: "txos expect < FILE",
     example: "Example: txos expect < examples/expected.txos",
 };
 
-const SHELL: Told = Told {
+const SHELL: Help = Help {
     about: "Reads steps and commands, and answers each line before it reads the next",
     usage: "txos shell [OPTIONS]",
     example: "Example: txos shell",
 };
 
-const RUN: Told = Told {
+const RUN: Help = Help {
     about: "Reads a program from standard input, runs it by workers, and writes what they did",
     usage: "txos run --workers <workers> --turns <turns> < FILE",
     example: "Example: txos run --workers 1 --turns 24 < examples/fall_back.program",
 };
 
-const CHECK: Told = Told {
+const CHECK: Help = Help {
     about: "Reads a text from standard input, and says of each line at fault what is wrong",
     usage: CHECK_USAGE,
     example: "Example: txos check < examples/first.txos",
 };
 
-const PLAIN: Told = Told {
+const PLAIN: Help = Help {
     about: "Reads a text of version 3 from standard input, and writes the one that it means",
     usage: "txos plain < FILE",
     example: "Example: txos plain < examples/install.txos",
 };
 
-const EXPLAIN: Told = Told {
+const EXPLAIN: Help = Help {
     about: "Says what a word or a number of a text, a report or a fault means",
     usage: "txos explain [word]",
     example: "Example: txos explain N8",
 };
 
-const PRINT_VERSION: Told = Told {
+const PRINT_VERSION: Help = Help {
     about: "Writes the version of the program",
     usage: "txos version",
     example: "Example: txos version",
 };
 
 /// A command with no words of its own.
-fn text_command<'a>(alloc: Global, name: &'a str, told: Told) -> Result<Command<'a>, AllocError>
+fn text_command<'a>(alloc: Global, name: &'a str, help: Help) -> Result<Command<'a>, AllocError>
     ensures shape { IfOk result (λ command. (app_of command).top ≡ text_line name.now) }
     ensures local { IfOk result (λ command. (out-Command command).has_globals ≡ false) }
 {
-    Ok(told_command(alloc, name, told))
+    Ok(command_with_help(alloc, name, help))
 }
 
 /// A command of that name, with what help says of it.
-fn told_command<'a>(alloc: Global, name: &'a str, told: Told) -> Command<'a>
+fn command_with_help<'a>(alloc: Global, name: &'a str, help: Help) -> Command<'a>
     ensures shape { (app_of result).top ≡ text_line name.now }
     ensures local { (out-Command result).has_globals ≡ false }
 {
     Command::new(alloc, name)
-        .about(told.about)
-        .override_usage(told.usage)
-        .after_help(told.example)
+        .about(help.about)
+        .override_usage(help.usage)
+        .after_help(help.example)
 }
 
 /// The command that answers line by line, with its flag.
@@ -436,7 +436,7 @@ fn shell_command<'a>(alloc: Global) -> Result<Command<'a>, AllocError>
         .long("json")
         .help("Answer each line by a line of JSON")
         .action(ArgAction::SetTrue);
-    told_command(alloc, "shell", SHELL).arg(json)
+    command_with_help(alloc, "shell", SHELL).arg(json)
 }
 
 /// The command that answers by JSON, with the two numbers of a run.
@@ -450,7 +450,7 @@ fn json_command<'a>(alloc: Global) -> Result<Command<'a>, AllocError>
     let turns = turns_option(alloc).help(
         "How many turns each worker takes, 1 to 10000; wants --workers",
     );
-    let command = told_command(alloc, "json", JSON).arg(workers)?;
+    let command = command_with_help(alloc, "json", JSON).arg(workers)?;
     command.arg(turns)
 }
 
@@ -461,7 +461,7 @@ fn picture_command<'a>(alloc: Global) -> Result<Command<'a>, AllocError>
 {
     let from = step_option(alloc, "from").help("The first step that is drawn, 1 to 4096");
     let to = step_option(alloc, "to").help("The last step that is drawn, 1 to 4096");
-    let command = told_command(alloc, "picture", PICTURE).arg(from)?;
+    let command = command_with_help(alloc, "picture", PICTURE).arg(from)?;
     command.arg(to)
 }
 
@@ -483,7 +483,7 @@ fn check_command<'a>(alloc: Global) -> Result<Command<'a>, AllocError>
     let reader = Arg::new(alloc, "command").help(
         "That is to read it: replay, debug, run, picture or json; none: that of its kind",
     );
-    told_command(alloc, "check", CHECK).arg(reader)
+    command_with_help(alloc, "check", CHECK).arg(reader)
 }
 
 /// The command that runs a program, with its two numbers, both required.
@@ -497,7 +497,7 @@ fn run_command<'a>(alloc: Global) -> Result<Command<'a>, AllocError>
     let turns = turns_option(alloc)
         .help("How many turns each worker takes, 1 to 10000")
         .required(true);
-    let command = told_command(alloc, "run", RUN).arg(workers)?;
+    let command = command_with_help(alloc, "run", RUN).arg(workers)?;
     command.arg(turns)
 }
 
@@ -529,5 +529,5 @@ fn explain_command<'a>(alloc: Global) -> Result<Command<'a>, AllocError>
     let word = Arg::new(alloc, "word").help(
         "A refusal, a fault, an error, a call, a word of a text; none: lists all",
     );
-    told_command(alloc, "explain", EXPLAIN).arg(word)
+    command_with_help(alloc, "explain", EXPLAIN).arg(word)
 }

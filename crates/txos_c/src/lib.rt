@@ -8,12 +8,12 @@
 
 ghost use Rattle.std.specs.Prelude.{◌≡◌};
 ghost use Rattle.tx_answers.specs.Handed.{Gives};
-ghost use Rattle.tx_answers.specs.Talks.{form_of, IsTalked};
+ghost use Rattle.tx_answers.specs.Sessions.{form_of, AnswersLines};
 ghost use Rattle.tx_answers.specs.Texts.{IsAnswered, IsChecked};
 ghost use Rattle.tx_script.specs.Grammars.{schedules, walks};
 
 use std::alloc::Global;
-use tx_answers::{checked, replayed, talked, walked};
+use tx_answers::{checked, replayed, served, walked};
 
 /// The report of a schedule, as `txos replay` writes it.
 #[unsafe(no_mangle)]
@@ -54,7 +54,7 @@ pub extern "C" fn txos_shell(
     answer: &mut [u8],
     size: &mut usize,
 ) -> i32
-    ensures { Gives (IsTalked (form_of form) text.now) answer.old result answer.new size.new }
+    ensures { Gives (AnswersLines (form_of form) text.now) answer.old result answer.new size.new }
 {
-    talked(alloc, tx_answers::form_of(form), text).hand_out(answer, size)
+    served(alloc, tx_answers::form_of(form), text).hand_out(answer, size)
 }

@@ -1,4 +1,4 @@
-//! Replays the schedule on standard input, or debugs it where commands stand behind it. It writes what
+//! Replays the schedule on standard input, or debugs it where commands come after it. It writes what
 //! `txos` writes, but says what is wrong with a text that can't be read.
 use std::io::{self, Read};
 use std::process::ExitCode;

@@ -35,7 +35,7 @@ pub fn replay(text: &[u8]) -> Result<String, Error> {
     answer(txos_replay, text)
 }
 
-/// What the commands behind a schedule answer.
+/// What the commands after a schedule answer.
 pub fn debug(text: &[u8]) -> Result<String, Error> {
     answer(txos_debug, text)
 }
@@ -58,10 +58,10 @@ fn answer(call: Call, text: &[u8]) -> Result<String, Error> {
             room.resize(size, 0);
             continue;
         }
-        let told = String::from_utf8_lossy(&room[..size]).into_owned();
+        let words = String::from_utf8_lossy(&room[..size]).into_owned();
         return match status {
-            0 => Ok(told),
-            1 => Err(Error::Fault(told)),
+            0 => Ok(words),
+            1 => Err(Error::Fault(words)),
             _ => Err(Error::NoMemory),
         };
     }

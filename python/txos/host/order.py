@@ -196,7 +196,7 @@ class Order:
             return f"process {event_task(event)} begins, and no fork of it is here; {HOW}"
         return (
             f"process {event_task(event)} begins in the PID namespace of line {inner.start}, where "
-            "it has another number, so its fork can't be told; record what runs inside of it"
+            "it has another number, so its fork can't be found; record what runs inside of it"
         )
 
     def _begin_root(self, event: Event) -> None:

@@ -88,7 +88,7 @@ def end_by_exit(tree: Tree, process: Process, status: int) -> None:
 
 
 def end_by_signal(tree: Tree, process: Process, name: str) -> None:
-    """A signal ends a process; of one that the kernel lacks it exits as a shell would tell it."""
+    """A signal ends a process; of one that the kernel lacks it exits as a shell would report it."""
     number = signal_number(name)
     if number is None:
         tree.leave_out(f"end by SIG{name}, which the kernel lacks")

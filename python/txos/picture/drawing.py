@@ -2,7 +2,7 @@
 
 The program draws a row of one height for each step, and the heads of the columns again after each
 40 rows. The rows before the first one that is shown it leaves out itself. What is in a hidden row
-behind that is taken out, and what goes through it is shortened, so that the rows that are left
+after that is taken out, and what goes through it is shortened, so that the rows that are left
 follow one another.
 """
 
@@ -74,8 +74,8 @@ def _drawn(part: Recording, first: int) -> str:
         check=False,
     )
     if ran.returncode:
-        told = ran.stderr.decode("utf-8", "replace").strip()
-        raise Fault(f"there is no picture: {told or f'txos ended with status {ran.returncode}'}")
+        fault = ran.stderr.decode("utf-8", "replace").strip()
+        raise Fault(f"there is no picture: {fault or f'txos ended with status {ran.returncode}'}")
     return ran.stdout.decode("utf-8")
 
 

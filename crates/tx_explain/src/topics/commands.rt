@@ -108,7 +108,7 @@ run: runs a program by workers, which are threads that share one kernel.
            K wW STEP : REPLY; then the line state, and the text of the state
            that the last step left
   example  txos run --workers 1 --turns 24 < examples/fall_back.program
-  In a state run point X ret R stands behind a process while it runs.
+  In a state run point X ret R follows a process while it runs.
 ",
     },
     Topic {

@@ -60,7 +60,7 @@ state: prints the state, and stays.
            state
            proc 1 parent 0 run point 0 ret 0
            proc 2 parent 1 run point 0 ret 0
-  At the end of a report it stands before the text of the last state.
+  At the end of a report it is before the text of the last state.
 ",
     },
     Topic {

@@ -31,7 +31,7 @@ SIGPIPE: signal 13, which a write to a pipe without a reader sends its caller.
 SIGCHLD: signal 17, which the end of a process sends to its parent.
   spelled  17, in texts of version 3 CHLD or SIGCHLD too
   Its usual action is to be ignored. Sent again while it is pending, it is
-  lost: one delivery may stand for several children.
+  lost: one delivery may be for several children.
 ",
     },
     Topic {

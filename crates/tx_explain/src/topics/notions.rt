@@ -19,7 +19,7 @@ const TOPICS: [Topic; 9] = [
         word: "transaction",
         also: &[],
         text: "\
-transaction: what stands as a whole, or not at all: from a sys_xbegin until the
+transaction: steps that all take effect, or none: from a sys_xbegin until the
 step that ends the last member's part commits it, or an abort takes it back.
   An abort, by sys_xabort or by the step kernel P, ends it as if its steps had
   never been; what others did meanwhile stays. sys_xbegin inside one is EINVAL.
@@ -38,7 +38,7 @@ member: the starter of a transaction, and each process that a member forks.
         also: &[],
         text: "\
 starter: the process that began a transaction, whose number names it.
-  After an abort it stands at the point after its sys_xbegin.
+  After an abort it is at the point after its sys_xbegin.
 ",
     },
     Topic {

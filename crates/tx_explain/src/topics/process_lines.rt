@@ -24,7 +24,7 @@ proc: the first line of a process.
            proc P parent Q exit S
            proc P parent Q killed S
   It runs, has ended with the status S, or was ended by signal S. The lines of
-  what it has stand behind it; of a process that has ended only ids can be
+  what it has come after it; of a process that has ended only ids can be
   there.
 ",
     },

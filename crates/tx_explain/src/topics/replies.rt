@@ -30,7 +30,7 @@ ok: was accepted and answered RET; a POSIX error is its negative number.
         text: "\
 ended: ended the process.
   example  8 ended
-  In a state ended LIST stands behind a transaction: the members that have
+  In a state ended LIST follows a transaction: the members that have
   ended their part of it, or - for none.
 ",
     },

@@ -167,7 +167,7 @@ next: goes on to the step that changes a piece of the state next.
         text: "\
 steps: lists the steps with their replies, and the position.
   form     steps, steps K for those from step K on, or steps K L for K to L
-  answers  a line for each step, and at K behind the last one that is made
+  answers  a line for each step, and at K after the last one that is made
   example  steps
            1 w1 2 getpid : ok 2
            at 1

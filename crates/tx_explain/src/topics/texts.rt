@@ -48,7 +48,7 @@ name: gives a process a name, in a schedule of version 3 and in the shell.
   answers  at K in the shell, where a cut lets go of it once it is ahead
   example  name 2 sh
            at 3
-  It makes no step. The shell shows it behind P in what why, owns, holds, when
+  It makes no step. The shell shows it after P in what why, owns, holds, when
   and next answer, until P is forked anew: that process has none.
 ",
     },
@@ -68,7 +68,7 @@ schedule: a text that says which process makes which step when.
         text: "\
 program: a text that says what each process does; all run the same.
   form     txos 3 program N, and then an instruction or a label a line
-  An instruction is a call without its process; fork and pipe stand alone, an
+  An instruction is a call without its process; fork and pipe take no word, an
   A, F, G, T or V may be $0 to $7, and a POINT is @NAME. There may be 1024
   instructions, which count from 0, and 256 labels.
 ",
@@ -80,7 +80,7 @@ program: a text that says what each process does; all run the same.
 label: names the number of the next instruction of a program.
   form     label NAME
   NAME     1 to 16 of a to z, 0 to 9 and _, a letter first; a name once
-  A POINT @NAME stands for that number.
+  A POINT @NAME means that number.
 ",
     },
     Topic {

@@ -1,7 +1,7 @@
 //! Prints what a command responds as a line of JSON.
 ghost use Rattle.std.specs.Prelude.{◌≡◌, ◌++◌, IfOk, OnOk, string_bytes};
 ghost use Rattle.tx_journal.specs.Entries.{history_of};
-ghost use Rattle.tx_journal.specs.Moved.{told_in};
+ghost use Rattle.tx_journal.specs.Moved.{moving_in};
 ghost use Rattle.tx_journal.specs.Sessions.{position_of, start_of};
 ghost use Rattle.tx_json.specs.Answers.{lines_with};
 ghost use Rattle.tx_json.specs.Each.{each_tokens};
@@ -93,7 +93,7 @@ fn put_members(writer: &mut LineWriter, response: &Response) -> Result<(), Alloc
 
 /// Appends whether a transaction may count as one moment, and the entries with its steps together.
 fn put_moved(writer: &mut LineWriter, moved: &Moved) -> Result<(), AllocError>
-    ensures { OnOk result (writer.new ≡ writer.old ++ moved_members (told_in moved.now)) }
+    ensures { OnOk result (writer.new ≡ writer.old ++ moved_members (moving_in moved.now)) }
 {
     put_flag(writer, "one_moment", moved.one_moment)?;
     begin_list(writer, "entries")?;

@@ -88,8 +88,8 @@ fn with_lines(
         (named names.entry) (history_of (made_of session.now)) (place_of session.now) answer.now
         (string_bytes text)) }
 {
-    let told = answer_text(alloc, version, session, names, answer)?;
-    let mut writer = begin_lines(alloc, session.position(), told.as_str())?;
+    let report = answer_text(alloc, version, session, names, answer)?;
+    let mut writer = begin_lines(alloc, session.position(), report.as_str())?;
     put_members(alloc, &mut writer, session, answer)?;
     put_names_of(&mut writer, names, answer)?;
     end_answer(writer)

@@ -5,7 +5,7 @@ ghost use Rattle.tx_journal.specs.Sessions.{made_of, position_of, start_of};
 ghost use Rattle.tx_script.specs.Debug.{responded_in, response_text};
 ghost use Rattle.tx_shell.specs.Names.{named};
 ghost use Rattle.tx_shell.specs.Places.{origin_of, place_of};
-ghost use Rattle.tx_shell.specs.Forms.{IsPlaced, TellsAnswer};
+ghost use Rattle.tx_shell.specs.Forms.{IsPlaced, ReportsAnswer};
 ghost use Rattle.tx_state_text.specs.Replies.{named_reply_text};
 
 use crate::answers::answer::Answer;
@@ -13,10 +13,10 @@ use crate::answers::helps::text_as;
 use crate::answers::journals::{list_steps, position_line, print_schedule};
 use crate::lines::versions::TextVersion;
 use crate::names::Names;
-use crate::questions::changes::tell_found;
-use crate::questions::held::{tell_desc, tell_pipe};
+use crate::questions::changes::report_found;
+use crate::questions::held::{report_desc, report_pipe};
 use crate::questions::owners::{list_owner, list_owners};
-use crate::questions::reasons::tell_why;
+use crate::questions::reasons::report_why;
 use std::alloc::Global;
 use std::fmt::Write;
 use tx_base::{NoMemory, Reply};
@@ -35,7 +35,7 @@ pub fn answer_text(
     answer: &Answer,
 ) -> Result<String, NoMemory>
     requires { IsPlaced (position_of session.now) answer.now }
-    ensures { IfOk result (λ text. TellsAnswer (origin_of version session.now)
+    ensures { IfOk result (λ text. ReportsAnswer (origin_of version session.now)
         (named names.entry) (history_of (made_of session.now)) (place_of session.now) answer.now
         (string_bytes text)) }
 {
@@ -49,15 +49,15 @@ pub fn answer_text(
         Answer::Without(_, None) => text_as(alloc, "no transaction\n"),
         Answer::Diff(_, _, Some(differences)) => text_as(alloc, differences.as_str()),
         Answer::Diff(_, _, None) => text_as(alloc, "no place\n"),
-        Answer::Change(found) => tell_found(alloc, session, names, found),
+        Answer::Change(found) => report_found(alloc, session, names, found),
         Answer::Why(step, reply, attempt) => {
-            tell_why(alloc, session, names, step, reply, attempt)
+            report_why(alloc, session, names, step, reply, attempt)
         }
         Answer::NothingRefused => text_as(alloc, "nothing was refused\n"),
         Answer::Owners => list_owners(alloc, session, names),
         Answer::OwnersOf(starter) => list_owner(alloc, session, names, *starter),
-        Answer::PipeHolders(found) => tell_pipe(alloc, names, found),
-        Answer::DescHolders(found) => tell_desc(alloc, names, found),
+        Answer::PipeHolders(found) => report_pipe(alloc, names, found),
+        Answer::DescHolders(found) => report_desc(alloc, names, found),
         Answer::Page(page) => text_as(alloc, page),
     }
 }

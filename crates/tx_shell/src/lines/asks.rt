@@ -8,7 +8,7 @@ ghost use Rattle.tx_shell.specs.Pieces.{IsNoPiece};
 ghost use Rattle.tx_shell.specs.declared.lines.asks.Ask.{Ask};
 ghost use Rattle.tx_shell.specs.declared.lines.versions.TextVersion.{TextVersion as TheVersion};
 
-use crate::lines::pieces::{byte_behind, read_piece};
+use crate::lines::pieces::{byte_after, read_piece};
 use crate::lines::versions::TextVersion;
 use std::str;
 use tx_base::{DescNo, Pid, PipeNo, Step};
@@ -88,26 +88,26 @@ pub fn read_ask(version: TextVersion, line: &[u8]) -> Option<Ask<'_>>
     if let Some(ask) = read_numbered(line) {
         return Some(ask);
     }
-    if let Some(words) = behind(b"try ", line) {
+    if let Some(words) = rest_after(b"try ", line) {
         return Some(Ask::Try(read_step(version.grammar(), words)?));
     }
-    if let Some(words) = behind(b"when ", line) {
+    if let Some(words) = rest_after(b"when ", line) {
         return Some(Ask::When(read_piece(words)?));
     }
-    if let Some(words) = behind(b"next ", line) {
+    if let Some(words) = rest_after(b"next ", line) {
         return Some(Ask::Next(read_piece(words)?));
     }
-    if let Some(words) = behind(b"why ", line) {
+    if let Some(words) = rest_after(b"why ", line) {
         return Some(Ask::Why(read_step(version.grammar(), words)?));
     }
-    if let Some(words) = behind(b"name ", line) {
+    if let Some(words) = rest_after(b"name ", line) {
         return read_name(version, words);
     }
-    Some(Ask::HelpOn(behind(b"help ", line)?))
+    Some(Ask::HelpOn(rest_after(b"help ", line)?))
 }
 
 /// What follows that front of a line. Nothing where the line does not begin so.
-pub fn behind<'a>(front: &[u8], line: &'a [u8]) -> Option<&'a [u8]>
+pub fn rest_after<'a>(front: &[u8], line: &'a [u8]) -> Option<&'a [u8]>
     ensures { MatchOption result ((rest : List ℕ) → line.now ≢ front.now ++ rest) (λ rest.
         line.now ≡ front.now ++ rest.now) }
 {
@@ -151,23 +151,23 @@ fn read_numbered(line: &[u8]) -> Option<Ask<'static>>
     ensures none { result ≡ None → (version : TheVersion) (ask : Ask) →
         IsOfNumbers ask → FitsAsk version ask → line.now ≢ ask_text ask }
 {
-    if let Some(numbers) = behind(b"steps ", line) {
+    if let Some(numbers) = rest_after(b"steps ", line) {
         return read_steps(numbers);
     }
-    if let Some(numbers) = behind(b"diff ", line) {
+    if let Some(numbers) = rest_after(b"diff ", line) {
         let (from, to) = two_numbers(numbers)?;
         return Some(Ask::Diff(from, to));
     }
-    if let Some(word) = behind(b"without ", line) {
+    if let Some(word) = rest_after(b"without ", line) {
         return Some(Ask::Without(read_starter(word)?));
     }
-    if let Some(word) = behind(b"owns ", line) {
+    if let Some(word) = rest_after(b"owns ", line) {
         return Some(Ask::OwnsOf(read_starter(word)?));
     }
-    if let Some(number) = byte_behind(b"holds pipe ", line) {
+    if let Some(number) = byte_after(b"holds pipe ", line) {
         return Some(Ask::HoldsPipe(PipeNo(number)));
     }
-    let number = byte_behind(b"holds desc ", line)?;
+    let number = byte_after(b"holds desc ", line)?;
     Some(Ask::HoldsDesc(DescNo(number)))
 }
 

@@ -17,7 +17,7 @@ ghost use Rattle.tx_shell.specs.Places.{view_at};
 ghost use Rattle.tx_shell.specs.Reasons.{blocked_line, since_text};
 ghost use Rattle.tx_state_text.specs.Each.{each_text};
 
-use crate::names::{Behind, Names, put_step_made};
+use crate::names::{Names, Suffix, put_step_made};
 use std::alloc::{AllocError, Global};
 use std::fmt::Write;
 use tx_base::{Pid, Step};
@@ -130,9 +130,9 @@ fn put_object(text: &mut String, names: Names<'_>, blocker: Blocker<'_>) -> Resu
         "{}{}{}: the transaction of {}{} has it",
         blocker.kind.word(),
         blocker.number,
-        Behind(names.of_object(blocker.kind, blocker.number)),
+        Suffix(names.of_object(blocker.kind, blocker.number)),
         blocker.owner.0,
-        Behind(names.of(blocker.owner.0))
+        Suffix(names.of(blocker.owner.0))
     )?;
     put_since(text, names, blocker.since)?;
     put(text, "\n")

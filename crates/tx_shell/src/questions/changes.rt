@@ -3,7 +3,7 @@ ghost use Rattle.std.specs.Prelude.{◌≡◌, ◌≤◌, ◌<◌, ◌+◌, IfOk
 ghost use Rattle.tx_journal.specs.Entries.{history_of};
 ghost use Rattle.tx_journal.specs.Sessions.{position_of, IsBetween, SameJournal};
 ghost use Rattle.tx_shell.specs.Changes.{AllShow, FindsLast, FindsNext, MeetsBack, MeetsNext};
-ghost use Rattle.tx_shell.specs.Changes.{shown_in, ShowsOthers, TellsFound};
+ghost use Rattle.tx_shell.specs.Changes.{shown_in, ReportsFound, ShowsOthers};
 ghost use Rattle.tx_shell.specs.Names.{named};
 ghost use Rattle.tx_shell.specs.Places.{place_of};
 
@@ -76,7 +76,7 @@ pub fn find_next(
 /// or that none was.
 ///
 /// NoMemory where a growth is refused.
-pub fn tell_found(
+pub fn report_found(
     alloc: Global,
     session: &Session,
     names: Names<'_>,
@@ -84,7 +84,7 @@ pub fn tell_found(
 ) -> Result<String, NoMemory>
     requires { IfSome found.now (λ change. 1 ≤ position_of session.now) }
     ensures { IfOk result (λ text.
-        TellsFound (named names.entry) (history_of session.now.entries) (position_of session.now)
+        ReportsFound (named names.entry) (history_of session.now.entries) (position_of session.now)
         found.now (string_bytes text)) }
 {
     let position = session.position();

@@ -7,7 +7,7 @@ ghost use Rattle.tx_waits.specs.Holders.{holders_by, is_sought};
 ghost use Rattle.tx_shell.specs.Names.{named};
 ghost use Rattle.tx_shell.specs.Places.{view_at};
 
-use crate::names::{Behind, Names};
+use crate::names::{Names, Suffix};
 use crate::questions::holders::{put_holders, put_others, word};
 use std::alloc::{AllocError, Global};
 use std::fmt::Write;
@@ -103,7 +103,7 @@ fn holders_of(alloc: Global, session: &Session, sought: Sought) -> Result<Vec<Ho
 /// The lines of who has a pipe open.
 ///
 /// NoMemory where a growth is refused.
-pub fn tell_pipe(
+pub fn report_pipe(
     alloc: Global,
     names: Names<'_>,
     found: &Option<PipeHolders>,
@@ -125,7 +125,7 @@ pub fn tell_pipe(
 /// The line of who has a description open.
 ///
 /// NoMemory where a growth is refused.
-pub fn tell_desc(
+pub fn report_desc(
     alloc: Global,
     names: Names<'_>,
     found: &Option<DescHolders>,
@@ -182,7 +182,7 @@ fn put_listed(
         "descriptor {} of process {}{}",
         first.descriptor,
         first.process,
-        Behind(names.of(first.process))
+        Suffix(names.of(first.process))
     )?;
     put_others(text, names, others)
 }

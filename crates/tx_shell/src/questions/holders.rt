@@ -5,7 +5,7 @@ ghost use Rattle.tx_shell.specs.Holders.{holders_line, next_text, nobody_line, s
 ghost use Rattle.tx_shell.specs.Names.{named};
 ghost use Rattle.tx_state_text.specs.Each.{each_text};
 
-use crate::names::{Behind, Names};
+use crate::names::{Names, Suffix};
 use std::alloc::AllocError;
 use std::fmt::Write;
 use tx_desc::Side;
@@ -53,7 +53,7 @@ fn put_open(
         word(side),
         first.descriptor,
         first.process,
-        Behind(names.of(first.process))
+        Suffix(names.of(first.process))
     )?;
     put_others(text, names, others)?;
     put(text, "\n")
@@ -80,7 +80,7 @@ fn put_other(text: &mut String, names: Names<'_>, holder: Holder) -> Result<(), 
         ", {} of process {}{}",
         holder.descriptor,
         holder.process,
-        Behind(names.of(holder.process))
+        Suffix(names.of(holder.process))
     )
 }
 

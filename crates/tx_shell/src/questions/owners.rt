@@ -7,7 +7,7 @@ ghost use Rattle.tx_shell.specs.Names.{named};
 ghost use Rattle.tx_shell.specs.Owners.{member_said, number_said, or_no_transaction, owned_text, owner_line, owner_lines};
 ghost use Rattle.tx_shell.specs.Places.{view_at};
 
-use crate::names::{Behind, Names};
+use crate::names::{Names, Suffix};
 use std::alloc::{AllocError, Global};
 use std::fmt::Write;
 use tx_base::{NoMemory, Pid};
@@ -79,7 +79,7 @@ fn put_owner(
     if !is_live(machine, starter) {
         return Ok(());
     }
-    write!(text, "owns {}{}", starter.0, Behind(names.of(starter.0)))?;
+    write!(text, "owns {}{}", starter.0, Suffix(names.of(starter.0)))?;
     put_owned(text, names, machine, starter, Kind::Processes)?;
     put_owned(text, names, machine, starter, Kind::Descriptions)?;
     put_owned(text, names, machine, starter, Kind::Pipes)?;
@@ -134,6 +134,6 @@ fn put_number(
     if some {
         put(text, ",")?;
     }
-    write!(text, "{number}{}", Behind(names.of_object(kind, number)))?;
+    write!(text, "{number}{}", Suffix(names.of_object(kind, number)))?;
     Ok(true)
 }

@@ -6,7 +6,7 @@ ghost use Rattle.tx_journal.specs.Sessions.{made_of, start_of};
 ghost use Rattle.tx_shell.specs.Blockers.{blocked_by, blocked_of};
 ghost use Rattle.tx_shell.specs.Names.{named};
 ghost use Rattle.tx_shell.specs.Reasons.{fact_lines, IsReason};
-ghost use Rattle.tx_shell.specs.Whys.{TellsReason, TellsWhy};
+ghost use Rattle.tx_shell.specs.Whys.{ReportsReason, ReportsWhy};
 
 use crate::answers::helps::meaning;
 use crate::names::{Names, put_step_made};
@@ -69,7 +69,7 @@ fn blockers_by<'a>(
 /// waits for.
 ///
 /// NoMemory where a growth is refused.
-pub fn tell_why(
+pub fn report_why(
     alloc: Global,
     session: &Session,
     names: Names<'_>,
@@ -77,7 +77,7 @@ pub fn tell_why(
     reply: &Reply,
     attempt: &Option<Attempt>,
 ) -> Result<String, NoMemory>
-    ensures { IfOk result (λ text. TellsWhy (named names.entry) (start_of session.now)
+    ensures { IfOk result (λ text. ReportsWhy (named names.entry) (start_of session.now)
         (history_of (made_of session.now)) step.now attempt.now reply.now (string_bytes text)) }
 {
     let mut text = String::new(alloc);
@@ -98,10 +98,10 @@ fn put_reason(
     reply: &Reply,
     attempt: &Option<Attempt>,
 ) -> Result<(), AllocError>
-    ensures { OnOk result ((told : List ℕ)
-        × (string_bytes text.new ≡ string_bytes text.old ++ told)
-        × TellsReason (named names.entry) (start_of session.now) (history_of (made_of session.now))
-        step.now attempt.now reply.now told) }
+    ensures { OnOk result ((report : List ℕ)
+        × (string_bytes text.new ≡ string_bytes text.old ++ report)
+        × ReportsReason (named names.entry) (start_of session.now) (history_of (made_of session.now))
+        step.now attempt.now reply.now report) }
 {
     match reply {
         Reply::No(why) => {

@@ -8,7 +8,7 @@ ghost use Rattle.tx_shell.specs.Places.{view_at};
 ghost use Rattle.tx_shell.specs.Reasons.{named_text, signal_line, signal_lines, twice_line};
 ghost use Rattle.tx_step.specs.TwoAnswers.{two_answers};
 
-use crate::names::{Behind, Names};
+use crate::names::{Names, Suffix};
 use std::alloc::AllocError;
 use std::fmt::Write;
 use tx_base::{Pid, Step};
@@ -74,7 +74,7 @@ fn put_twice(
     ensures { OnOk result (string_bytes text.new
         ≡ string_bytes text.old ++ twice_line (named names.entry) starter.0 answers) }
 {
-    let name = Behind(names.of(starter.0));
+    let name = Suffix(names.of(starter.0));
     write!(
         text,
         "signal {} to {}{name}: it would be answered ",

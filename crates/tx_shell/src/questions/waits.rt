@@ -13,7 +13,7 @@ ghost use Rattle.tx_desc.specs.Descriptions.{end_for};
 ghost use Rattle.tx_shell.specs.Reasons.{open_by, pipe_line, pipe_lines, waited_text};
 ghost use Rattle.tx_waits.specs.declared.kinds.Kind.TheVariants.{Pipes};
 
-use crate::names::{Behind, Names};
+use crate::names::{Names, Suffix};
 use crate::questions::blockers::names as objects_named;
 use crate::questions::holders::put_holders;
 use std::alloc::AllocError;
@@ -46,7 +46,7 @@ pub fn put_waited(
 {
     match step {
         Step::Call(_, Call::Waitpid(child, _)) => {
-            let name = Behind(names.of_computed(*child));
+            let name = Suffix(names.of_computed(*child));
             write!(text, "proc {child}{name} has not ended\n")
         }
         Step::Call(_, Call::Read(..)) => {

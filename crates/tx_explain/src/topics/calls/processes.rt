@@ -24,7 +24,7 @@ fork: makes the child C, a copy of the caller without its pending signals.
   C        the child, 1 to 256, in version 1 to 64
   N3       it is out of range
   N4       it is in use
-  else     the child's number; the child's own answer is 0, and both stand at
+  else     the child's number; the child's own answer is 0, and both are at
            the point after the call
   example  2 fork 3
 ",
@@ -40,7 +40,7 @@ exit: ends the process with the status V modulo 256, from 0 to 255.
   else     the reply is ended, or committed where this ended the last member's
            part of a transaction
   example  2 exit 0
-  In a state exit S stands behind a process that has ended with the status S.
+  In a state exit S follows a process that has ended with the status S.
   Alone on a line of the shell exit ends the session, as quit does.
 ",
     },

@@ -50,7 +50,7 @@ jump: goes on at the point, always or where the last answer is V.
         text: "\
 keep: keeps the last answer in slot V.
   form     P keep V
-  V        the slot, 0 to 7; in a program $0 to $7 stand for what the slots
+  V        the slot, 0 to 7; in a program $0 to $7 mean what the slots
            hold
   EINVAL   V is not 0 to 7
   else     the last answer, which stays

@@ -1,7 +1,7 @@
 use Rattle.tx_base.specs.declared.steps.Step.TheVariants.{Call as Calls}
 use Rattle.tx_step.specs.Roles.{role_as}
 use Rattle.tx_step.specs.Ways.{posted_with}
-use Rattle.tx_journal.proofs.NotesTold.{note_on}
+use Rattle.tx_journal.proofs.NotesTaken.{note_on}
 use Rattle.tx_journal.proofs.notes.note_of_call.Goals as goal
 
 pub returns : goal.returns

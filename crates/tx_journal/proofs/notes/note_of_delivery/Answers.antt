@@ -2,7 +2,7 @@ use Rattle.std.proofs.Common.{true, refl}
 use Rattle.tx_base.specs.declared.steps.Step.TheVariants.{Deliver}
 use Rattle.tx_step.specs.Roles.{role_as}
 use Rattle.tx_step.specs.Ways.{posted_with}
-use Rattle.tx_journal.proofs.NotesTold.{note_on}
+use Rattle.tx_journal.proofs.NotesTaken.{note_on}
 use Rattle.tx_journal.proofs.notes.note_of_delivery.Goals as goal
 
 pub returns : goal.returns

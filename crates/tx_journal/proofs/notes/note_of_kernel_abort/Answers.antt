@@ -1,7 +1,7 @@
 use Rattle.tx_content.specs.Content.{view_of}
 use Rattle.tx_model.specs.Numbers.{negative}
 use Rattle.tx_model.specs.View.{kernel_status, present}
-use Rattle.tx_journal.proofs.NotesTold.{abort_noted}
+use Rattle.tx_journal.proofs.NotesTaken.{abort_noted}
 use Rattle.tx_journal.proofs.notes.note_of_kernel_abort.Goals as goal
 
 pub returns : goal.returns

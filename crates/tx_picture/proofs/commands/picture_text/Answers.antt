@@ -1,5 +1,5 @@
 use Rattle.std.proofs.Common.{◌≡◌, IfOk, string_bytes, subst}
-use Rattle.tx_picture.proofs.Told.{answered}
+use Rattle.tx_picture.proofs.Answered.{answered}
 use Rattle.tx_picture.specs.Captions.{captioned_in}
 use Rattle.tx_picture.specs.Excerpts.{drawing_in}
 use Rattle.tx_picture.specs.Grammars.{pictures}

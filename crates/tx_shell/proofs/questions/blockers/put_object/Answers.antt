@@ -3,7 +3,7 @@ use Rattle.std.proofs.lemmas.Result.{on_ok_weaker}
 use Rattle.std.specs.Fmt.{decimal}
 use Rattle.tx_journal.specs.Since.{numbered}
 use Rattle.tx_waits.specs.Kinds.{word_of}
-use Rattle.tx_shell.specs.Names.{behind_number, kind_name, named}
+use Rattle.tx_shell.specs.Names.{after_number, kind_name, named}
 use Rattle.tx_shell.specs.Reasons.{since_text}
 use Rattle.tx_shell.proofs.questions.blockers.put_object.Goals as goal
 
@@ -20,7 +20,7 @@ returns c =
     let number : List ℕ = decimal blocker.number in
     let owner : List ℕ = decimal blocker.owner.0 in
     on_ok_weaker c.put.result
-    (λ put. in_parts before (word_of blocker.kind) number (behind_number (kind_name names blocker.kind blocker.number)) (codes ": the transaction of ") owner (behind_number (names blocker.owner.0)) (codes " has it")
+    (λ put. in_parts before (word_of blocker.kind) number (after_number (kind_name names blocker.kind blocker.number)) (codes ": the transaction of ") owner (after_number (names blocker.owner.0)) (codes " has it")
     (since_text names (option_map numbered blocker.since)) (10 ∷ []) (string_bytes c.write.new.self) (string_bytes c.put_since.new.text) (string_bytes c.put.new.text)
-    (c.in_ok-write.ensures.bytes ∙ (λ i. before ++ (c.word.ensures i ++ (number ++ (behind_number (c.of_object.ensures i) ++ (codes ": the transaction of " ++ (owner ++ (behind_number (c.of.ensures i) ++ codes " has it"))))))))
+    (c.in_ok-write.ensures.bytes ∙ (λ i. before ++ (c.word.ensures i ++ (number ++ (after_number (c.of_object.ensures i) ++ (codes ": the transaction of " ++ (owner ++ (after_number (c.of.ensures i) ++ codes " has it"))))))))
     c.in_ok-put_since.ensures put) c.put.ensures

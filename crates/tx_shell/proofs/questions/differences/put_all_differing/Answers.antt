@@ -1,5 +1,5 @@
 use Rattle.std.proofs.Common.{◌≡◌, ◌+◌, ◌<◌, ◌++◌, suc, ℕ, ◌∷◌, arith, drop, length, string_bytes, refl, sym, ap, ◌∙◌, add-one, drop-cons}
-use Rattle.tx_shell.proofs.Differed.{one_past, pair_more, pairs_told}
+use Rattle.tx_shell.proofs.Differed.{one_past, pair_more, pairs_said}
 use Rattle.tx_shell.specs.Differences.{differing}
 use Rattle.tx_shell.proofs.questions.differences.put_all_differing.Goals as goal
 
@@ -28,5 +28,5 @@ loop-i-preserved c =
 
 pub returns : goal.returns
 returns c =
-    pairs_told string_bytes c.args.before.now c.args.after.now (string_bytes c.args.text.now) (string_bytes c.loop-i.text) c.loop-i.i c.loop-i.invariant
+    pairs_said string_bytes c.args.before.now c.args.after.now (string_bytes c.args.text.now) (string_bytes c.loop-i.text) c.loop-i.i c.loop-i.invariant
     (one_past (length c.args.before.now) (length c.args.after.now) c.min-end.result c.loop-i.i (omega (arith, c.min-end.ensures)) c.loop-i-test.false)

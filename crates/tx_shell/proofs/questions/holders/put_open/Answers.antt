@@ -3,7 +3,7 @@ use Rattle.std.proofs.lemmas.Result.{on_ok_weaker}
 use Rattle.std.specs.Fmt.{decimal}
 use Rattle.tx_desc.specs.Descriptions.{end_for}
 use Rattle.tx_shell.specs.Holders.{holder_text, next_text, side_word}
-use Rattle.tx_shell.specs.Names.{behind_number, named}
+use Rattle.tx_shell.specs.Names.{after_number, named}
 use Rattle.tx_state_text.specs.Each.{each_text}
 use Rattle.tx_shell.proofs.questions.holders.put_open.Goals as goal
 
@@ -20,5 +20,5 @@ returns c =
     on_ok_weaker c.put.result
     (λ put. in_parts before (codes "its ") (side_word (end_for c.args.side)) (codes " side is open: descriptor ") (holder_text names first) (each_text (next_text names) c.args.others.now) (10 ∷ [])
     (string_bytes c.write.new.self) (string_bytes c.put_others.new.text) (string_bytes c.put.new.text)
-    (c.in_ok-write.ensures.bytes ∙ (λ i. before ++ (codes "its " ++ (c.word.ensures i ++ (codes " side is open: descriptor " ++ (decimal first.descriptor ++ (codes " of process " ++ (decimal first.process ++ behind_number (c.of.ensures i)))))))))
+    (c.in_ok-write.ensures.bytes ∙ (λ i. before ++ (codes "its " ++ (c.word.ensures i ++ (codes " side is open: descriptor " ++ (decimal first.descriptor ++ (codes " of process " ++ (decimal first.process ++ after_number (c.of.ensures i)))))))))
     c.in_ok-put_others.ensures put) c.put.ensures

@@ -2,7 +2,7 @@ use Rattle.std.proofs.Common.{rules, ◌≡◌, ◌++◌, List, ℕ, ℤ, FitsSi
 use Rattle.std.proofs.lemmas.Int.{to_z-of_z}
 use Rattle.std.proofs.lemmas.Result.{on_ok_weaker}
 use Rattle.std.specs.Fmt.{decimal}
-use Rattle.tx_shell.specs.Names.{behind_number, named}
+use Rattle.tx_shell.specs.Names.{after_number, named}
 use Rattle.tx_shell.specs.Reasons.{named_text}
 use Rattle.tx_shell.proofs.questions.signals.put_twice.Goals as goal
 
@@ -18,11 +18,11 @@ returns c =
     let one = string_bytes c.write.new.self in
     let three = string_bytes c.put.new.text in
     let four = string_bytes c.put_named-2.new.text in
-    let name : List ℕ = behind_number (named c.args.names s) in
-    let asked : List ℕ → List ℕ = λ behind. codes "signal " ++ (decimal answers.signo.0 ++ (codes " to " ++ (decimal s ++ (behind ++ codes ": it would be answered ")))) in
-    let aborted : List ℕ → List ℕ = λ behind. codes " if the transaction of " ++ (decimal s ++ (behind ++ codes " were aborted\n")) in
+    let name : List ℕ = after_number (named c.args.names s) in
+    let asked : List ℕ → List ℕ = λ given. codes "signal " ++ (decimal answers.signo.0 ++ (codes " to " ++ (decimal s ++ (given ++ codes ": it would be answered ")))) in
+    let aborted : List ℕ → List ℕ = λ given. codes " if the transaction of " ++ (decimal s ++ (given ++ codes " were aborted\n")) in
     on_ok_weaker c.write-2.result
     (λ put. five_put (string_bytes c.args.text.now) one (string_bytes c.put_named.new.text) three four (string_bytes c.write-2.new.self) (asked name) (named_text answers.present) (codes " now, and ")
-    (named_text answers.after_abort) (aborted name) (c.in_ok-write.ensures.bytes ∙ (λ i. string_bytes c.args.text.now ++ asked (behind_number (c.of.ensures i))))
+    (named_text answers.after_abort) (aborted name) (c.in_ok-write.ensures.bytes ∙ (λ i. string_bytes c.args.text.now ++ asked (after_number (c.of.ensures i))))
     (c.in_ok-put_named.ensures ∙ ap (λ (z : ℤ). one ++ named_text z) (to_z-of_z w64 answers.present present)) c.in_ok-put.ensures
-    (c.in_ok-put_named-2.ensures ∙ ap (λ (z : ℤ). three ++ named_text z) (to_z-of_z w64 answers.after_abort after)) (put ∙ (λ i. four ++ aborted (behind_number (c.of.ensures i))))) c.write-2.ensures.bytes
+    (c.in_ok-put_named-2.ensures ∙ ap (λ (z : ℤ). three ++ named_text z) (to_z-of_z w64 answers.after_abort after)) (put ∙ (λ i. four ++ aborted (after_number (c.of.ensures i))))) c.write-2.ensures.bytes

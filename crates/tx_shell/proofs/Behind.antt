@@ -1,6 +1,0 @@
--- What stands behind a front is spelled as the whole is.
-use Rattle.std.proofs.Common.{◌≡◌, List, ℕ, ◌++◌, Option, Some, sym, ◌∙◌}
-use Rattle.std.proofs.lemmas.List.{append_cancel_left}
-
-pub only_behind : {A : Type 0} (front words word : List ℕ) (spelled : List ℕ) (r : Option A) (x : A) → words ≡ front ++ word → (word ≡ spelled → r ≡ Some x) → words ≡ front ++ spelled → r ≡ Some x
-only_behind front words word spelled r x at only is = only (append_cancel_left front word spelled (sym at ∙ is))

@@ -1,7 +1,0 @@
-use Rattle.std.specs.Fmt.{decimal}
-use Rattle.tx_shell.proofs.Behind.{only_behind}
-use Rattle.tx_shell.proofs.lines.pieces.pid_behind.Goals as goal
-
-pub returns-clause-only : goal.returns-clause-only
-returns-clause-only c pid small spelled =
-    only_behind c.args.front.now c.args.words.now c.in_ok-behind.field-0.now (decimal pid.0) c.read_pid.result pid c.in_ok-behind.ensures (c.read_pid.ensures.only pid small) spelled

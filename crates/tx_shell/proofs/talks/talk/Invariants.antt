@@ -1,6 +1,0 @@
-use Rattle.tx_shell.proofs.Talked.{TalkedSoFar}
-use Rattle.tx_shell.specs.Standings.{standing_of}
-use Rattle.tx_shell.proofs.talks.talk.Given as goal
-
-abbrev pub invariant-loop-number : goal.invariant-loop-number
-invariant-loop-number g l = TalkedSoFar (standing_of l.initial.shell) (standing_of l.shell) (g.T.Terminal.traffic l.initial.terminal) (g.T.Terminal.traffic l.terminal) l.number
