@@ -201,7 +201,7 @@ step_rows =
 
 abbrev pub debugger_rows : List Row
 debugger_rows =
-    row "back" ("undo" ∷ []) "takes the newest step back that is made."
+    row "back" ("undo" ∷ []) "takes back the newest step."
     ∷ row "forward" [] "makes the next step again."
     ∷ row "goto" [] "goes to position K, the place after the first K accepted steps."
     ∷ row "state" [] "prints the state, and stays."
@@ -221,7 +221,7 @@ shell_rows =
     ∷ row "next" [] "goes on to the step that changes a piece of the state next."
     ∷ row "steps" [] "lists the steps with their replies, and the position."
     ∷ row "text" [] "prints the schedule of the steps up to the position."
-    ∷ row "cut" [] "lets go of the steps after the position, so that others can be made."
+    ∷ row "cut" [] "drops the steps after the position, so that others can be made."
     ∷ row "help" ("?" ∷ []) "lists the commands of the shell, or says what a word means."
     ∷ row "quit" [] "ends the shell's session, as the end of the input does."
     ∷ []
@@ -269,7 +269,7 @@ text_rows =
     ∷ row "label" [] "names the number of the next instruction of a program."
     ∷ row "number" [] "0, or digits of which the first is not 0, with - before a negative one."
     ∷ row "hex" ("bytes" ∷ "string" ∷ []) "bytes of two lower-case hex digits each: 6869 is \"hi\"."
-    ∷ row "set" [] "signals: - for none, or known numbers, rising and joined by a comma."
+    ∷ row "set" [] "signals: - for none, or known numbers, ascending, with commas between."
     ∷ row "signal" ("signals" ∷ []) "a known number, or 0 in kill and sigqueue, which only asks."
     ∷ []
 

@@ -118,7 +118,7 @@ run: runs a program by workers, which are threads that share one kernel.
 check: says of each line at fault in a text what is wrong with it.
   form     txos check < TEXT, or txos check COMMAND < TEXT
   TEXT     a schedule, one with the line debug and commands, or a program
-  COMMAND  the command that is to read it: replay, debug, run, picture or json;
+  COMMAND  the command to check it for: replay, debug, run, picture or json;
            with none it is that of the text's kind
   writes   line L, column C: and a sentence, for each line at fault; L and C
            count from 1, C in bytes. Nothing where the command reads the text;

@@ -19,9 +19,9 @@ const TOPICS: [Topic; 6] = [
         word: "back",
         also: &["undo"],
         text: "\
-back: takes the newest step back that is made.
+back: takes back the newest step.
   form     back
-  answers  at K, or no start where none is made
+  answers  at K, or no start where there is none
   example  back
            at 3
 ",

@@ -48,7 +48,7 @@ txn: a live transaction, by the process S that began it.
   form     txn S open LIST ended LIST
            txn S defer open LIST ended LIST
   the second where it defers deliveries: the members whose part is open, and
-  those that have ended theirs, by rising number and joined by , or - for none
+  those that have ended theirs, ascending and joined by , or - for none
 ",
     },
     Topic {

@@ -86,8 +86,8 @@ slots: what it has in slots 0 to 7.
         text: "\
 page: a page of 64 bytes; page N has the addresses from 64 times N on.
   form     page N rw or page N r, and then O=HH for each byte that is not 0, by
-           rising offset
-  when     page N is mapped; by rising N
+           ascending offset
+  when     page N is mapped; by ascending N
   example  page 0 rw 0=6f 1=6c 2=64: \"old\"
 ",
     },
@@ -97,7 +97,7 @@ page: a page of 64 bytes; page N has the addresses from 64 times N on.
         text: "\
 fd: an open descriptor.
   form     fd F D
-  when     descriptor F is open and names description D; by rising F
+  when     descriptor F is open and names description D; by ascending F
   example  fd 0 3
 ",
     },

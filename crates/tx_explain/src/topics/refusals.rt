@@ -83,7 +83,7 @@ N7: SIGKILL is pending at it, and the step does not deliver it (KillPending).
         also: &["Busy"],
         text: "\
 N8: another transaction is in the way (reservations, two answers) (Busy).
-  no N8 H: it is that which process H began, the least of those in the way. It
+  no N8 H: the one that process H began, the lowest of those in the way. It
   has reserved what the step needs; or the step sends its starter a signal,
   whose answer would be another had that transaction just been aborted.
   Make the step again when that transaction is committed or aborted; kernel H

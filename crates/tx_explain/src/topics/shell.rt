@@ -23,7 +23,7 @@ pub fn session_page() -> &'static str
 
 const SESSION: &str = "\
 a step     as in a schedule, as 2 store 0 \"hi!\": it is made, and answered
-back       takes the newest step back that is made
+back       takes back the newest step
 forward    makes the next step again
 goto K     goes to position K, the place after the first K steps
 goto end   goes to the place after all steps
@@ -44,7 +44,7 @@ next PIECE goes on to the step that changes it next
 PIECE is   proc P, page P N, fd P F, ids P, pending P, queue P, desc D, pipe Q,
            or txn S
 name P N   gives process P the name N, which is shown after its number
-cut        lets go of the steps after the position
+cut        drops the steps after the position
 help WORD  says what a word of a step, a reply or a state means, as help N8
 ?          prints this list, as help does
 quit       ends, as exit and the end of the input do
@@ -179,7 +179,7 @@ steps: lists the steps with their replies, and the position.
         text: "\
 text: prints the schedule of the steps up to the position.
   form     text
-  answers  a text of which txos replay leaves the same state
+  answers  a text whose replay leaves the same state
   example  text
            txos 2 schedule 2
            2 getpid
@@ -189,7 +189,7 @@ text: prints the schedule of the steps up to the position.
         word: "cut",
         also: &[],
         text: "\
-cut: lets go of the steps after the position, so that others can be made.
+cut: drops the steps after the position, so that others can be made.
   form     cut
   answers  at K
   example  cut

@@ -31,7 +31,7 @@ mask: the blocked signals, which are not delivered.
         text: "\
 action: what a signal does when it is delivered.
   form     action S ignore, action S catch POINT SET
-  when     the action of signal S is not the usual one; by rising S
+  when     the action of signal S is not the usual one; by ascending S
   example  action 15 ignore
 ",
     },

@@ -34,8 +34,8 @@ txos: the first word of a text, and then its version, its kind and a number.
         text: "\
 comment: in a text of version 3, # and what follows it in its line.
   example  2 map 0   # the first page
-  A line without a word is left out. Spaces and tabs part words, any number of
-  them, and a line may end with CR LF, or where the text ends.
+  A line without a word is left out. Any spaces and tabs separate words, and a
+  line may end with CR LF, or where the text ends.
 ",
     },
     Topic {
@@ -45,7 +45,7 @@ comment: in a text of version 3, # and what follows it in its line.
 name: gives a process a name, in a schedule of version 3 and in the shell.
   form     name P NAME
   NAME     1 to 16 letters, digits, ., _, + or -
-  answers  at K in the shell, where a cut lets go of it once it is ahead
+  answers  at K in the shell, where cut drops it too once it is ahead
   example  name 2 sh
            at 3
   It makes no step. The shell shows it after P in what why, owns, holds, when
@@ -59,7 +59,7 @@ name: gives a process a name, in a schedule of version 3 and in the shell.
 schedule: a text that says which process makes which step when.
   form     txos 3 schedule N, and then a step a line
   A step is a call with its process before it, P deliver S, or kernel P. There
-  may be 4096 steps.
+  are at most 4096 steps.
 ",
     },
     Topic {
@@ -88,7 +88,7 @@ label: names the number of the next instruction of a program.
         also: &[],
         text: "\
 number: 0, or digits of which the first is not 0, with - before a negative one.
-  It lies in -9223372036854775808 to 9223372036854775807. One that is out of a
+  It is -9223372036854775808 to 9223372036854775807. One that is out of a
   call's range is answered by the call. In a text a process number is 0 to
   65535, that of a pipe, a description or a signal to be delivered 0 to 255, a
   POINT 0 to 4294967295.
@@ -108,7 +108,7 @@ hex: bytes of two lower-case hex digits each: 6869 is \"hi\".
         word: "set",
         also: &[],
         text: "\
-set: signals: - for none, or known numbers, rising and joined by a comma.
+set: signals: - for none, or known numbers, ascending, with commas between.
   example  10,12,34
   In sigprocmask set SET it is the new mask. A text of version 3 may have names
   in it, and any order: TERM,INT,34.
