@@ -49,8 +49,8 @@ int txos_replay(const char *text, size_t length, char *answer, size_t room, size
 /* What the commands after a schedule answer: `txos debug`. */
 int txos_debug(const char *text, size_t length, char *answer, size_t room, size_t *size);
 
-/* What is wrong with a text of any kind: `txos check`. Where nothing is, the answer is TXOS_OK, and
- * has no byte. */
+/* What is wrong with a text of any kind: `txos check`, without its first line and expectations.
+ * Where nothing is wrong, the answer is TXOS_OK, and has no byte. */
 int txos_check(const char *text, size_t length, char *answer, size_t room, size_t *size);
 
 /* The answers to the lines of a session, one after another, up to its end or a line `quit`: `txos
