@@ -75,7 +75,7 @@ class Refused(TxosError):
 class StepsAhead(TxosError):
     """A step was to be made where steps that were taken back are ahead.
 
-    `Kernel.cut` lets go of them, `Kernel.forward` and `Kernel.goto_end` make them again.
+    `Kernel.cut` drops them, `Kernel.forward` and `Kernel.goto_end` make them again.
     """
 
 

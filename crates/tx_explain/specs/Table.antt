@@ -39,9 +39,9 @@ abbrev pub command_rows : List Row
 command_rows =
     row "replay" [] "makes the steps of a schedule, and writes their replies and the state."
     ∷ row "debug" [] "walks back and forward over the steps of a schedule, as commands say."
-    ∷ row "json" [] "writes what a text is answered, as lines of JSON."
+    ∷ row "json" [] "answers a text in lines of JSON."
     ∷ row "picture" [] "draws what the steps of a schedule did, as a picture in SVG."
-    ∷ row "expect" [] "says which replies are not those that the comments of a text expect."
+    ∷ row "expect" [] "compares replies with those that comments expect."
     ∷ row "shell" [] "answers steps and commands, each line before it reads the next."
     ∷ row "run" [] "runs a program by workers, which are threads that share one kernel."
     ∷ row "check" [] "says of each line at fault in a text what is wrong with it."
@@ -124,19 +124,19 @@ status_rows =
 
 abbrev pub reply_rows : List Row
 reply_rows =
-    row "ok" [] "was accepted and answered RET; a POSIX error is its negative number."
-    ∷ row "ended" [] "ended the process."
-    ∷ row "committed" ("commit" ∷ []) "committed the transaction; a send of signal S to process T failed"
-    ∷ row "aborted" ("abort" ∷ []) "aborted the transaction. STATUS is 201, 202 or 203."
-    ∷ row "out" [] "wrote bytes, or none, to the console."
+    row "ok" [] "the step was accepted and answered RET; POSIX error E is -E."
+    ∷ row "ended" [] "the step ended the process."
+    ∷ row "committed" ("commit" ∷ []) "the step committed the transaction; a send of signal S to process T"
+    ∷ row "aborted" ("abort" ∷ []) "the step aborted the transaction."
+    ∷ row "out" [] "the step wrote bytes to the console."
     ∷ row "no" [] "the step was refused; N1 to N14 say why."
     ∷ []
 
 abbrev pub memory_rows : List Row
 memory_rows =
     row "map" [] "maps page A, of zeros, which may be read and written."
-    ∷ row "unmap" [] "takes page A out, and its bytes with it."
-    ∷ row "protect" ("r" ∷ "rw" ∷ []) "lets page A be read only, or written too; its bytes stay."
+    ∷ row "unmap" [] "unmaps page A and discards its bytes."
+    ∷ row "protect" ("r" ∷ "rw" ∷ []) "makes page A read-only or writable; its bytes stay."
     ∷ row "store" [] "stores bytes from address A on: all of them, or none."
     ∷ row "load" [] "reads the byte at A."
     ∷ []
@@ -145,28 +145,28 @@ abbrev pub process_rows : List Row
 process_rows =
     row "fork" [] "makes the child C, a copy of the caller without its pending signals."
     ∷ row "exit" [] "ends the process with the status V modulo 256, from 0 to 255."
-    ∷ row "waitpid" ("nohang" ∷ []) "takes the status of its child T, which is removed then."
+    ∷ row "waitpid" ("nohang" ∷ []) "takes the status of its child T and removes the child."
     ∷ row "getpid" [] "asks its number."
     ∷ row "getppid" [] "asks its parent's number."
     ∷ []
 
 abbrev pub id_rows : List Row
 id_rows =
-    row "setuid" [] "sets its three user ids, or the effective one alone."
+    row "setuid" [] "sets its three user ids, or only the effective one."
     ∷ row "seteuid" [] "sets its effective user id."
-    ∷ row "setgid" [] "sets its three group ids, or the effective one alone."
+    ∷ row "setgid" [] "sets its three group ids, or only the effective one."
     ∷ row "setegid" [] "sets its effective group id."
     ∷ []
 
 abbrev pub descriptor_rows : List Row
 descriptor_rows =
-    row "pipe" [] "makes the pipe Q, to be read by the description R and written by W."
-    ∷ row "dup" [] "gives the description of F the lowest free descriptor too."
-    ∷ row "dup2" [] "gives the description of F the descriptor G too."
+    row "pipe" [] "makes pipe Q; description R reads it, W writes it."
+    ∷ row "dup" [] "makes the lowest free descriptor name F's description too."
+    ∷ row "dup2" [] "makes descriptor G name F's description too."
     ∷ row "close" [] "closes descriptor F."
-    ∷ row "set_nonblock" ("on" ∷ "off" ∷ "O_NONBLOCK" ∷ []) "lets the description of F not wait, or wait."
-    ∷ row "read" [] "reads V bytes from descriptor F to address A on."
-    ∷ row "write" [] "writes V bytes from address A on to descriptor F: all of them, or none."
+    ∷ row "set_nonblock" ("on" ∷ "off" ∷ "O_NONBLOCK" ∷ []) "makes F's description non-blocking or blocking."
+    ∷ row "read" [] "reads V bytes from descriptor F to address A."
+    ∷ row "write" [] "writes V bytes from address A to descriptor F: all of them, or none."
     ∷ []
 
 abbrev pub signal_rows : List Row
@@ -174,7 +174,7 @@ signal_rows =
     row "kill" [] "sends process T the signal V, as sigqueue does with the value 0."
     ∷ row "sigqueue" [] "sends process T the signal, with a value."
     ∷ row "sigaction" ("default" ∷ "ignore" ∷ "catch" ∷ []) "says what signal V does when it is delivered."
-    ∷ row "sigprocmask" ("unblock" ∷ []) "blocks these signals too, or no more, or alone."
+    ∷ row "sigprocmask" ("unblock" ∷ []) "adds to the mask, takes from it, or sets it."
     ∷ row "sigpending" [] "asks which blocked signals are pending."
     ∷ row "sigreturn" [] "goes back to where a signal was caught last."
     ∷ []
@@ -182,7 +182,7 @@ signal_rows =
 abbrev pub script_rows : List Row
 script_rows =
     row "console_write" [] "shows V bytes from address A on."
-    ∷ row "jump" ("always" ∷ "if" ∷ []) "goes on at the point, always or where the last answer is V."
+    ∷ row "jump" ("always" ∷ "if" ∷ []) "goes on at the point, always or if the last answer is V."
     ∷ row "keep" [] "keeps the last answer in slot V."
     ∷ []
 
@@ -205,7 +205,7 @@ debugger_rows =
     ∷ row "forward" [] "makes the next step again."
     ∷ row "goto" [] "goes to position K, the place after the first K accepted steps."
     ∷ row "state" [] "prints the state, and stays."
-    ∷ row "moved" ("one" ∷ "many" ∷ []) "asks whether a transaction may be thought of as done at once; it stays."
+    ∷ row "moved" ("one" ∷ "many" ∷ []) "says whether a transaction counts as one moment; the position stays."
     ∷ row "at" [] "at K, the answer of a debugger's command: K is the new position."
     ∷ []
 
@@ -251,8 +251,8 @@ signal_line_rows =
 abbrev pub other_line_rows : List Row
 other_line_rows =
     row "desc" ("description" ∷ []) "a description, 0 to 63: what descriptors name."
-    ∷ row "block" [] "a read or write by the description waits (N9) where it can't go on."
-    ∷ row "nonblock" [] "a read or write by the description is EAGAIN where it can't go on."
+    ∷ row "block" [] "a read or write by the description waits (N9) if it can't go on."
+    ∷ row "nonblock" [] "a read or write by the description is EAGAIN if it can't go on."
     ∷ row "txn" [] "a live transaction, by the process S that began it."
     ∷ row "open" [] "open LIST: the members of a transaction whose part is open."
     ∷ row "defer" [] "the transaction defers deliveries to its members (N14), but of signal 9."
@@ -267,7 +267,7 @@ text_rows =
     ∷ row "schedule" ("step" ∷ []) "a text that says which process makes which step when."
     ∷ row "program" ("instruction" ∷ []) "a text that says what each process does; all run the same."
     ∷ row "label" [] "names the number of the next instruction of a program."
-    ∷ row "number" [] "0, or digits of which the first is not 0, with - before a negative one."
+    ∷ row "number" [] "0, or digits that do not begin with 0, with - before a negative one."
     ∷ row "hex" ("bytes" ∷ "string" ∷ []) "bytes of two lower-case hex digits each: 6869 is \"hi\"."
     ∷ row "set" [] "signals: - for none, or known numbers, ascending, with commas between."
     ∷ row "signal" ("signals" ∷ []) "a known number, or 0 in kill and sigqueue, which only asks."

@@ -51,8 +51,8 @@ SaysReply Json number reply text = IsLineOf (step_answer number reply) text
 
 -- steps are ahead, and both ways out
 abbrev pub SaysAhead : Form → List ℕ → Type 0
-SaysAhead Text text = text ≡ codes "no: steps are ahead; cut lets go of them, forward makes them again\n"
-SaysAhead Json text = IsLineOf (error_answer (codes "steps are ahead; cut lets go of them, forward makes them again")) text
+SaysAhead Text text = text ≡ codes "no: steps are ahead; cut drops them, forward makes them again\n"
+SaysAhead Json text = IsLineOf (error_answer (codes "steps are ahead; cut drops them, forward makes them again")) text
 
 -- what is wrong with a line
 abbrev pub ReportsIn : Form → List ℕ → List ℕ → Type 0

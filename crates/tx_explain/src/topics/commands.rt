@@ -24,7 +24,7 @@ replay: makes the steps of a schedule, and writes their replies and the state.
   TEXT     a schedule, which is read whole before its first step is made
   writes   for each step, in order, a line K REPLY, with K from 1; then the
            line state, and the text of the state that the last step left
-  status   0, with a fault 1; 2 where the words after txos are not understood
+  status   0, with a fault 1; 2 if the arguments are not understood
   example  txos replay < examples/first.txos
 ",
     },
@@ -44,10 +44,10 @@ debug: walks back and forward over the steps of a schedule, as commands say.
         word: "json",
         also: &[],
         text: "\
-json: writes what a text is answered, as lines of JSON.
+json: answers a text in lines of JSON.
   form     txos json < TEXT
   TEXT     a schedule, or one with the line debug and commands
-  writes   for each step its reply, and then the state; where the text has
+  writes   for each step its reply, and then the state; if the text has
            commands, what each command answers. The lines are those of
            txos shell --json
   example  txos json < examples/first.txos
@@ -70,15 +70,15 @@ picture: draws what the steps of a schedule did, as a picture in SVG.
         word: "expect",
         also: &[],
         text: "\
-expect: says which replies are not those that the comments of a text expect.
+expect: compares replies with those that comments expect.
   form     txos expect < TEXT
   TEXT     a schedule. # = REPLY after a step is the reply that is expected, as
            in a report; ok EBADF is ok -9. After the last step # state, and a
            line # = LINE for each line of the state, expect that state
-  writes   line L: STEP: expected REPLY, got REPLY, where the reply is another;
+  writes   line L: STEP: expected REPLY, got REPLY, if they differ;
            and how many are as expected, how many not, and how many expect
            nothing
-  status   0 where some are as expected and none is not, else 1
+  status   0 if some are as expected and none differs, else 1
   example  txos expect < examples/expected.txos
 ",
     },
@@ -89,7 +89,7 @@ expect: says which replies are not those that the comments of a text expect.
 shell: answers steps and commands, each line before it reads the next.
   form     txos shell, or txos shell --json for answers in JSON
   lines    a step of a schedule; a command of the debugger or of the shell, as
-           the line help lists them; and before all others a header, if any
+           the line help lists them; the first line may be a header
            Each command has a page: help when
   writes   the reply, the answer, or what is wrong with the line
   example  txos shell
@@ -118,12 +118,12 @@ run: runs a program by workers, which are threads that share one kernel.
 check: says of each line at fault in a text what is wrong with it.
   form     txos check < TEXT, or txos check COMMAND < TEXT
   TEXT     a schedule, one with the line debug and commands, or a program
-  COMMAND  the command to check it for: replay, debug, run, picture or json;
-           with none it is that of the text's kind
-  writes   line L, column C: and a sentence, for each line at fault; L and C
-           count from 1, C in bytes. Nothing where the command reads the text;
-           but with none, one for each # = of a schedule that is no reply
-  status   0 where nothing is wrong, else 1
+  COMMAND  the command that reads it: replay, debug, run, picture or json; by
+           default that of the text's kind
+  writes   line L, column C: and a sentence for each line at fault; L and C
+           count from 1, C in bytes. Nothing if the command reads the text; but
+           without COMMAND, a line for each # = of a schedule that is no reply
+  status   0 if nothing is wrong, else 1
   example  txos check < examples/first.txos
 ",
     },
@@ -144,7 +144,7 @@ plain: writes the text of version 2 that a text of version 3 means.
         text: "\
 explain: says what a word or a number of a report, a fault or a text means.
   form     txos explain WORD, or txos explain for the list of all words
-  WORD     in small or capital letters
+  WORD     in lower or upper case
   example  txos explain N8
 ",
     },

@@ -21,7 +21,7 @@ const TOPICS: [Topic; 6] = [
         text: "\
 back: takes back the newest step.
   form     back
-  answers  at K, or no start where there is none
+  answers  at K, or no start if there is none
   example  back
            at 3
 ",
@@ -32,7 +32,7 @@ back: takes back the newest step.
         text: "\
 forward: makes the next step again.
   form     forward
-  answers  at K, or no end where all are made
+  answers  at K, or no end if all are made
   example  forward
            at 4
 ",
@@ -44,7 +44,7 @@ forward: makes the next step again.
 goto: goes to position K, the place after the first K accepted steps.
   form     goto K; in the shell also goto end, the place after all
   K        a number from 0
-  answers  at K, or no place where there is no such position
+  answers  at K, or no place if there is no such position
   example  goto 2
            at 2
 ",
@@ -67,11 +67,11 @@ state: prints the state, and stays.
         word: "moved",
         also: &["one", "many"],
         text: "\
-moved: asks whether a transaction may be thought of as done at once; it stays.
+moved: says whether a transaction counts as one moment; the position stays.
   form     moved K, not in texts of version 1
   K        a number from 0: the accepted step that commits the transaction
   answers  moved one LIST or moved many LIST of the transaction that step K
-           commits, or no commit where it commits none
+           commits, or no commit if it commits none
   example  moved 8
            moved one 1,2,7,3,4,5,6,8
   LIST has the numbers of all accepted steps, with the transaction's own

@@ -25,7 +25,7 @@ EPERM: 1, answered as -1: not permitted.
   setgid, setegid     not privileged, and V is neither real nor saved group id
   kill, sigqueue      the sender's effective user id is not 0, and neither of
                       its two ids is the target's real or saved user id
-  As a signal 1 is HUP.
+  Signal 1 is HUP.
 ",
     },
     Topic {
@@ -34,7 +34,7 @@ EPERM: 1, answered as -1: not permitted.
         text: "\
 ESRCH: 3, answered as -3: no such process.
   kill, sigqueue      T is no process number, or there is no process T
-  As a signal 3 is QUIT.
+  Signal 3 is QUIT.
 ",
     },
     Topic {
@@ -45,7 +45,7 @@ EBADF: 9, answered as -9: a bad descriptor.
   dup, dup2, close, set_nonblock, read, write    F is not open
   dup2                G is not 0 to 15
   read, write         F names the wrong side of its pipe
-  As a signal 9 is KILL.
+  Signal 9 is KILL.
 ",
     },
     Topic {
@@ -54,7 +54,7 @@ EBADF: 9, answered as -9: a bad descriptor.
         text: "\
 ECHILD: 10, answered as -10: no such child.
   waitpid             T is not the number of a child of the caller
-  As a signal 10 is USR1.
+  Signal 10 is USR1.
 ",
     },
     Topic {
@@ -75,9 +75,9 @@ EAGAIN: 11, answered as -11: try again.
 EFAULT: 14, answered as -14: a bad address.
   store, read         the range is not good for writing
   load, write, console_write    it is not good for reading
-  A range is good where all of it lies in 0 to 1023 on mapped pages, which for
-  writing may be written; one of no bytes is always good.
-  As a signal 14 is ALRM.
+  A range is good if it is empty, or if all of it is in 0 to 1023 on mapped
+  pages, for writing on writable ones.
+  Signal 14 is ALRM.
 ",
     },
     Topic {
@@ -116,7 +116,7 @@ EMFILE: 24, answered as -24: too many descriptors. A process has 16.
         text: "\
 EPIPE: 32, answered as -32: a broken pipe.
   write               no reader is left; SIGPIPE is sent to the caller too
-  As a signal 32 is the first realtime one.
+  Signal 32 is the first realtime one.
 ",
     },
     Topic {

@@ -20,8 +20,8 @@ const TOPICS: [Topic; 8] = [
         also: &[],
         text: "\
 F1: line K is none of the grammar's, or has no end.
-  Lines count from 1, the empty text is F1 at line 1. Words are parted by one
-  space, numbers have no plus and no zeros in front, letters are small, and
+  Lines count from 1, the empty text is F1 at line 1. One space separates
+  words; numbers have no plus and no leading zeros; letters are lower-case;
   each line ends with one byte 10, without CR.
 ",
     },
@@ -53,7 +53,7 @@ F4: the reader failed, or was interrupted more than 1,000 times.
         also: &[],
         text: "\
 F5: the writer failed, took no byte, or was interrupted more than 1,000 times.
-  A front of what was to be written may be there.
+  The output's beginning may have been written.
 ",
     },
     Topic {

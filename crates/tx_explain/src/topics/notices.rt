@@ -39,8 +39,8 @@ SIGCHLD: signal 17, which the end of a process sends to its parent.
         also: &["32", "33", "34", "35", "36", "37", "38", "39"],
         text: "\
 realtime: the signals 32 to 39, which are queued, each with its value.
-  A process has at most 16 in its queue. The least number is delivered first,
-  of one number the oldest. The usual action is to end the process.
+  A process queues at most 16. The lowest number is delivered first, among
+  equal numbers the oldest. The usual action is to end the process.
   As an answer -32 is EPIPE.
 ",
     },

@@ -47,8 +47,8 @@ starter: the process that began a transaction, whose number names it.
         text: "\
 reserved: the processes, descriptions and pipes that a member's steps read or
 wrote, and the targets of its signals, until its transaction ends.
-  A step of others that needs one of these is N8; a signal to a starter may
-  pass.
+  A step of others that needs one is N8; a signal to a starter may get
+  through.
 ",
     },
     Topic {
@@ -81,7 +81,7 @@ turn: one step, or none, for one process that runs.
         text: "\
 zombie: a process that has ended, and that its parent has not waited for.
   Its line in a state has exit or killed, and waitpid takes it away. The
-  children of a process that ends are those of process 1 from then on.
+  children of a process that ends become children of process 1.
 ",
     },
     Topic {
@@ -89,8 +89,8 @@ zombie: a process that has ended, and that its parent has not waited for.
         also: &[],
         text: "\
 eof: a read that answers 0, since its pipe is empty and has no writer.
-  A writer is left while any descriptor of any process names a description of
-  the write side. Then the read waits (N9), or is EAGAIN.
+  While any descriptor of any process names a description of the write side, a
+  writer is left: the read waits (N9), or is EAGAIN.
 ",
     },
 ];

@@ -29,7 +29,7 @@ desc: a description, 0 to 63: what descriptors name.
         word: "block",
         also: &[],
         text: "\
-block: a read or write by the description waits (N9) where it can't go on.
+block: a read or write by the description waits (N9) if it can't go on.
   In sigprocmask block SET it adds signals to the mask.
 ",
     },
@@ -37,7 +37,7 @@ block: a read or write by the description waits (N9) where it can't go on.
         word: "nonblock",
         also: &[],
         text: "\
-nonblock: a read or write by the description is EAGAIN where it can't go on.
+nonblock: a read or write by the description is EAGAIN if it can't go on.
 ",
     },
     Topic {
@@ -47,7 +47,7 @@ nonblock: a read or write by the description is EAGAIN where it can't go on.
 txn: a live transaction, by the process S that began it.
   form     txn S open LIST ended LIST
            txn S defer open LIST ended LIST
-  the second where it defers deliveries: the members whose part is open, and
+  the second if it defers deliveries: the members whose part is open, and
   those that have ended theirs, ascending and joined by , or - for none
 ",
     },

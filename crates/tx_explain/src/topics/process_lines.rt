@@ -23,9 +23,8 @@ proc: the first line of a process.
   form     proc P parent Q run point X ret R
            proc P parent Q exit S
            proc P parent Q killed S
-  It runs, has ended with the status S, or was ended by signal S. The lines of
-  what it has come after it; of a process that has ended only ids can be
-  there.
+  It runs, has ended with the status S, or was ended by signal S. Lines for
+  what it has follow; an ended process has at most ids.
 ",
     },
     Topic {

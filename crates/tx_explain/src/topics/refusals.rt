@@ -20,9 +20,8 @@ const TOPICS: [Topic; 14] = [
         also: &["NoProcess"],
         text: "\
 N1: there is no process of that number (NoProcess).
-  It is the number at the front of the line: 1 to 256, in a text of version 1
-  to 64, of a process that was there at the start or was forked, and is not
-  gone again by a waitpid or an abort.
+  No process of the number at the front of the line (1 to 256, in version 1 to
+  64) was there at the start or forked, or a waitpid or an abort removed it.
 ",
     },
     Topic {
@@ -58,8 +57,7 @@ N4: a number that the step chooses is in use (NumberTaken).
         text: "\
 N5: its transaction is doomed (Doomed).
   SIGKILL would be pending at the transaction's starter after an abort. Only
-  the step kernel S ends it, where S is the starter, and is answered aborted
-  203.
+  the step kernel S, with S the starter, ends it; the reply is aborted 203.
 ",
     },
     Topic {
@@ -83,9 +81,9 @@ N7: SIGKILL is pending at it, and the step does not deliver it (KillPending).
         also: &["Busy"],
         text: "\
 N8: another transaction is in the way (reservations, two answers) (Busy).
-  no N8 H: the one that process H began, the lowest of those in the way. It
-  has reserved what the step needs; or the step sends its starter a signal,
-  whose answer would be another had that transaction just been aborted.
+  no N8 H: process H began it; of several the lowest is named. It has reserved
+  what the step needs, or the step signals its starter and the answer would
+  differ if it had just been aborted.
   Make the step again when that transaction is committed or aborted; kernel H
   aborts it.
 ",
@@ -122,8 +120,7 @@ N11: a caught delivery with four frames in use (FramesFull).
         also: &["NoTransaction"],
         text: "\
 N12: the kernel's abort of a number that is no live starter (NoTransaction).
-  kernel P wants a process P that began a transaction which is not yet
-  committed or aborted.
+  kernel P needs a live transaction that process P began.
 ",
     },
     Topic {

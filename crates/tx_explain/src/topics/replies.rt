@@ -19,7 +19,7 @@ const TOPICS: [Topic; 6] = [
         word: "ok",
         also: &[],
         text: "\
-ok: was accepted and answered RET; a POSIX error is its negative number.
+ok: the step was accepted and answered RET; POSIX error E is -E.
   form     K ok RET
   example  3 ok -22: step 3 answered EINVAL
 ",
@@ -28,28 +28,28 @@ ok: was accepted and answered RET; a POSIX error is its negative number.
         word: "ended",
         also: &[],
         text: "\
-ended: ended the process.
+ended: the step ended the process.
   example  8 ended
-  In a state ended LIST follows a transaction: the members that have
-  ended their part of it, or - for none.
+  In a state ended LIST follows a transaction: the members whose part has
+  ended, or - for none.
 ",
     },
     Topic {
         word: "committed",
         also: &["commit"],
         text: "\
-committed: committed the transaction; a send of signal S to process T failed
-with the error number E, for each T:S:E.
+committed: the step committed the transaction; a send of signal S to process T
+failed with error number E, for each T:S:E.
   form     K committed T:S:E ..
-  example  9 committed 4:10:3: process 4 could not be sent signal 10, ESRCH
+  example  9 committed 4:10:3: signal 10 to process 4 failed, ESRCH
 ",
     },
     Topic {
         word: "aborted",
         also: &["abort"],
         text: "\
-aborted: aborted the transaction. STATUS is 201, 202 or 203.
-  form     K aborted STATUS
+aborted: the step aborted the transaction.
+  form     K aborted STATUS: 201, 202 or 203
   example  10 aborted 201: a member called sys_xabort
 ",
     },
@@ -57,7 +57,7 @@ aborted: aborted the transaction. STATUS is 201, 202 or 203.
         word: "out",
         also: &[],
         text: "\
-out: wrote bytes, or none, to the console.
+out: the step wrote bytes to the console.
   form     K out HEX, or K out - for none
   example  5 out 6869: \"hi\"
 ",
@@ -69,7 +69,7 @@ out: wrote bytes, or none, to the console.
 no: the step was refused; N1 to N14 say why.
   K no N8 H    was refused: the transaction that process H began is in the way
   K no N9      was refused for another reason, and changed nothing
-  A debugger's command answers no start, no end, no place or no commit where
+  A debugger's command answers no start, no end, no place or no commit if
   there is no such step, and stays where it is.
 ",
     },

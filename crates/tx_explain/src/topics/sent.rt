@@ -55,8 +55,8 @@ SIGABRT: signal 6, whose usual action is to end the process.
         text: "\
 SIGKILL: signal 9, which ends the process; never caught, ignored or blocked.
   spelled  9, in texts of version 3 KILL or SIGKILL too
-  While it is pending, each other step of its process is N7. At the starter of
-  a transaction it dooms that (N5).
+  While it is pending, other steps of its process are N7. From outside, it
+  dooms a starter's transaction (N5).
   As an answer -9 is EBADF.
 ",
     },

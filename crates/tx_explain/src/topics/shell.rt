@@ -28,17 +28,17 @@ forward    makes the next step again
 goto K     goes to position K, the place after the first K steps
 goto end   goes to the place after all steps
 state      prints the state
-moved K    may the transaction that step K commits count as done at once?
+moved K    says if the transaction that step K commits counts as one moment
 steps K L  lists steps K to L, and the position; steps K: from K on; steps: all
 text       prints the schedule of the steps up to the position, for txos replay
 try STEP   says what a step would be answered, and how the state would differ
 diff K L   says how the state at position L differs from that at position K
 without S  says how the state would differ without the transaction of S
 why STEP   says why a step would be refused, what is in its way, and since
-           when, or what it waits for; why: of the step refused last
+           when, or what it waits for; why: the last refused step
 owns S     says what the transaction of S has reserved; owns: what each has
 holds      pipe N: says which descriptors of which processes have each side of
-           pipe N open; desc N: which name description N
+           pipe N open; desc N: those that name it
 when PIECE goes back to the step that changed a piece of the state last
 next PIECE goes on to the step that changes it next
 PIECE is   proc P, page P N, fd P F, ids P, pending P, queue P, desc D, pipe Q,
@@ -63,7 +63,7 @@ try: says what a step would be answered here, and how the state would differ.
            ok 2
            - proc 2 parent 1 run point 0 ret 0
            + proc 2 parent 1 run point 1 ret 2
-  It answers where steps are ahead too.
+  It answers with steps ahead too.
 ",
     },
     Topic {
@@ -86,7 +86,7 @@ diff: says how the states at two positions differ, and stays.
   form     diff K L
   K, L     the places after the first K and the first L accepted steps
   answers  each line of the state at K that is gone at L, after -, or has come,
-           after +; nothing where none is; no place where K or L is not there
+           after +; nothing if none is; no place if K or L is not there
   example  diff 0 1
            - proc 2 parent 1 run point 0 ret 0
            + proc 2 parent 1 run point 1 ret 2
@@ -100,7 +100,7 @@ without: says how the state would differ if a transaction were aborted here.
   form     without S
   S        the process that began the transaction
   answers  each line of the state that would go, after -, or come, after +; or
-           no transaction where S began none that is live
+           no transaction if S began none that is live
   example  without 2
            - proc 2 parent 1 run point 1 ret 0
            + proc 2 parent 1 run point 1 ret -202
@@ -114,7 +114,7 @@ without: says how the state would differ if a transaction were aborted here.
 owns: says what the live transactions have reserved.
   form     owns, or owns S for the one that process S began
   answers  a line each: its starter, and the numbers of its processes, of its
-           descriptions and of its pipes; no transaction where there is none
+           descriptions and of its pipes; no transaction if there is none
   example  owns
            owns 2 proc 2,4 desc 0 pipe -
 ",
@@ -127,7 +127,7 @@ holds: says which descriptors of which processes have a pipe open.
   form     holds pipe N, or holds desc N for one description
   answers  a line for each side of pipe N, with its descriptors by process; for
            description N its side and its pipe too; no pipe or no description
-           where there is none of that number
+           if there is none of that number
   example  holds pipe 0
            its read side is open: descriptor 0 of process 4
            its write side is open: descriptor 1 of process 3, 1 of process 4
@@ -142,7 +142,7 @@ when: goes back to the step that changed a piece of the state last.
   PIECE    proc P, page P N, fd P F, ids P, pending P, queue P, desc D, pipe Q,
            or txn S
   answers  at K: STEP, and each line of the piece that went, after -, or came,
-           after +; at 0: no change where no step changed it
+           after +; at 0: no change if no step changed it
   example  when page 2 0
            at 2: 2 map 0
            + page 0 rw
@@ -155,7 +155,7 @@ when: goes back to the step that changed a piece of the state last.
 next: goes on to the step that changes a piece of the state next.
   form     next PIECE, with a piece as when has it
   answers  at K: STEP, and each line of the piece that went, after -, or came,
-           after +; at K: no change, at the end, where no step changes it
+           after +; at K: no change, at the end, if no step changes it
   example  next page 2 0
            at 2: 2 map 0
            + page 0 rw

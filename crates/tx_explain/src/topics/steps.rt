@@ -28,7 +28,7 @@ deliver: a pending signal S is delivered to process P.
   N11      it is caught, and four frames are in use
   else     ignored: ok with the answer that P had; caught: ok with the signal's
            value, 0 for a standard one; else P ends with the status 256 + S,
-           and the reply is ended, or committed where this ended the last part
+           and the reply is ended, or committed if this ended the last part
   example  2 deliver 10
 ",
     },
@@ -40,7 +40,7 @@ kernel: the kernel aborts the transaction that process P began.
   form     kernel P
   P        the transaction's starter, whatever state it is in
   N12      P is the starter of no live transaction
-  else     the reply is aborted 202, or aborted 203 where it is doomed
+  else     the reply is aborted 202, or aborted 203 if it is doomed
   example  kernel 2
 ",
     },

@@ -45,11 +45,11 @@ comment: in a text of version 3, # and what follows it in its line.
 name: gives a process a name, in a schedule of version 3 and in the shell.
   form     name P NAME
   NAME     1 to 16 letters, digits, ., _, + or -
-  answers  at K in the shell, where cut drops it too once it is ahead
+  answers  at K in the shell; a cut drops it if it is ahead
   example  name 2 sh
            at 3
   It makes no step. The shell shows it after P in what why, owns, holds, when
-  and next answer, until P is forked anew: that process has none.
+  and next answer, until another process is forked as P, which has no name.
 ",
     },
     Topic {
@@ -87,11 +87,11 @@ label: names the number of the next instruction of a program.
         word: "number",
         also: &[],
         text: "\
-number: 0, or digits of which the first is not 0, with - before a negative one.
-  It is -9223372036854775808 to 9223372036854775807. One that is out of a
+number: 0, or digits that do not begin with 0, with - before a negative one.
+  It is from -9223372036854775808 to 9223372036854775807. One that is out of a
   call's range is answered by the call. In a text a process number is 0 to
-  65535, that of a pipe, a description or a signal to be delivered 0 to 255, a
-  POINT 0 to 4294967295.
+  65535, that of a pipe, a description or a delivered signal 0 to 255, a POINT
+  0 to 4294967295.
 ",
     },
     Topic {
@@ -121,11 +121,11 @@ set: signals: - for none, or known numbers, ascending, with commas between.
 signal: a known number, or 0 in kill and sigqueue, which only asks.
   HUP 1, INT 2, QUIT 3, ABRT 6, KILL 9, USR1 10, USR2 12, PIPE 13, ALRM 14,
   TERM 15, CHLD 17, and the realtime numbers 32 to 39
-  A text of version 3 may have the name for the number: USR1 or SIGUSR1.
+  In a text of version 3 it may be a name: USR1 or SIGUSR1.
   The usual action of 17 is to be ignored, that of all others to end the
   process. KILL is never caught, ignored or blocked. A realtime signal is
-  queued, with its value; any other is pending once. To process 1 no signal
-  does anything.
+  queued, with its value; any other is pending once. A signal to process 1 has
+  no effect.
 ",
     },
 ];

@@ -20,7 +20,7 @@ use tx_journal::Session;
 use tx_script::Form;
 
 /// The answer to a step where steps are ahead.
-const AHEAD: &str = "steps are ahead; cut lets go of them, forward makes them again";
+const AHEAD: &str = "steps are ahead; cut drops them, forward makes them again";
 
 /// The answer to a line without a word.
 ///
@@ -96,7 +96,7 @@ pub fn put_ahead(alloc: Global, form: Form, text: &mut String) -> Result<(), NoM
     *text = match form {
         Form::Text => text_as(
             alloc,
-            "no: steps are ahead; cut lets go of them, forward makes them again\n",
+            "no: steps are ahead; cut drops them, forward makes them again\n",
         )?,
         Form::Json => tx_json::error_answer(alloc, AHEAD)?,
     };

@@ -19,7 +19,7 @@ const TOPICS: [Topic; 7] = [
         word: "pipe",
         also: &[],
         text: "\
-pipe: makes the pipe Q, to be read by the description R and written by W.
+pipe: makes pipe Q; description R reads it, W writes it.
   form     P pipe Q R W; in a program pipe alone, of the least free numbers
   Q        the pipe, 0 to 31
   R, W     the two descriptions, 0 to 63, of different numbers
@@ -36,7 +36,7 @@ pipe: makes the pipe Q, to be read by the description R and written by W.
         word: "dup",
         also: &[],
         text: "\
-dup: gives the description of F the lowest free descriptor too.
+dup: makes the lowest free descriptor name F's description too.
   form     P dup F
   F        the descriptor, 0 to 15
   EBADF    F is not open
@@ -49,12 +49,11 @@ dup: gives the description of F the lowest free descriptor too.
         word: "dup2",
         also: &[],
         text: "\
-dup2: gives the description of F the descriptor G too.
+dup2: makes descriptor G name F's description too.
   form     P dup2 F G
   F, G     two descriptors, 0 to 15
   EBADF    F is not open, or G is not 0 to 15
-  else     G; where it is another number than F it is closed first, if it is
-           open
+  else     G; if it is open and not F, it is closed first
   example  2 dup2 0 1
 ",
     },
@@ -74,11 +73,11 @@ close: closes descriptor F.
         word: "set_nonblock",
         also: &["on", "off", "O_NONBLOCK"],
         text: "\
-set_nonblock: lets the description of F not wait, or wait.
+set_nonblock: makes F's description non-blocking or blocking.
   form     P set_nonblock F on, P set_nonblock F off
   F        the descriptor, 0 to 15
   EBADF    F is not open
-  else     0; with on a read or write that would wait answers EAGAIN
+  else     0; with on, a read or write that would wait is EAGAIN
   example  2 set_nonblock 0 on
 ",
     },
@@ -86,7 +85,7 @@ set_nonblock: lets the description of F not wait, or wait.
         word: "read",
         also: &[],
         text: "\
-read: reads V bytes from descriptor F to address A on.
+read: reads V bytes from descriptor F to address A.
   form     P read F A V
   F        the descriptor of a read side, 0 to 15
   A        an address, 0 to 1023
@@ -107,7 +106,7 @@ read: reads V bytes from descriptor F to address A on.
         word: "write",
         also: &[],
         text: "\
-write: writes V bytes from address A on to descriptor F: all of them, or none.
+write: writes V bytes from address A to descriptor F: all of them, or none.
   form     P write F A V
   F        the descriptor of a write side, 0 to 15
   A        an address, 0 to 1023

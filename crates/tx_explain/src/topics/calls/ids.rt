@@ -19,7 +19,7 @@ const TOPICS: [Topic; 4] = [
         word: "setuid",
         also: &[],
         text: "\
-setuid: sets its three user ids, or the effective one alone.
+setuid: sets its three user ids, or only the effective one.
   form     P setuid V
   V        the id, 0 to 65535
   EINVAL   it is not 0 to 65535
@@ -48,7 +48,7 @@ seteuid: sets its effective user id.
         word: "setgid",
         also: &[],
         text: "\
-setgid: sets its three group ids, or the effective one alone.
+setgid: sets its three group ids, or only the effective one.
   form     P setgid V
   V        the id, 0 to 65535
   EINVAL   it is not 0 to 65535

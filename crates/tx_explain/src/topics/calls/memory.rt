@@ -31,7 +31,7 @@ map: maps page A, of zeros, which may be read and written.
         word: "unmap",
         also: &[],
         text: "\
-unmap: takes page A out, and its bytes with it.
+unmap: unmaps page A and discards its bytes.
   form     P unmap A
   A        the page, 0 to 15
   EINVAL   it is not 0 to 15, or not mapped
@@ -43,7 +43,7 @@ unmap: takes page A out, and its bytes with it.
         word: "protect",
         also: &["r", "rw"],
         text: "\
-protect: lets page A be read only, or written too; its bytes stay.
+protect: makes page A read-only or writable; its bytes stay.
   form     P protect A r, P protect A rw
   A        the page, 0 to 15
   EINVAL   it is not 0 to 15, or not mapped

@@ -37,7 +37,7 @@ exit: ends the process with the status V modulo 256, from 0 to 255.
   form     P exit V
   V        any number
   EPERM    process 1
-  else     the reply is ended, or committed where this ended the last member's
+  else     the reply is ended, or committed if this ended the last member's
            part of a transaction
   example  2 exit 0
   In a state exit S follows a process that has ended with the status S.
@@ -48,13 +48,13 @@ exit: ends the process with the status V modulo 256, from 0 to 255.
         word: "waitpid",
         also: &["nohang"],
         text: "\
-waitpid: takes the status of its child T, which is removed then.
+waitpid: takes the status of its child T and removes the child.
   form     P waitpid T wait, P waitpid T nohang
   T        the child
   ECHILD   T is not the number of a child of the caller
   0        the child runs, with nohang
   N9       the child runs, with wait
-  else     T; slot 0 becomes its status: 0 to 255 after exit, 256 + S where
+  else     T; slot 0 becomes its status: 0 to 255 after exit, 256 + S if
            signal S ended it
   example  2 waitpid 3 wait
 ",

@@ -35,7 +35,7 @@ console_write: shows V bytes from address A on.
         word: "jump",
         also: &["always", "if"],
         text: "\
-jump: goes on at the point, always or where the last answer is V.
+jump: goes on at the point, always or if the last answer is V.
   form     P jump POINT always, P jump POINT if V
   POINT    0 to 65535; in a program @NAME
   V        any number

@@ -28,12 +28,12 @@ kill: sends process T the signal V, as sigqueue does with the value 0.
   From a member of a transaction to no member:
   -200     signal 0
   EAGAIN   32 held already
-  0        else: it is held until the commit
+  else     0; the signal is held until the commit
   From all others, and among members:
   ESRCH    there is no process T
   EPERM    the sender's effective user id is not 0, and neither of its two ids,
            real and effective, is the target's real or saved user id
-  0        signal 0, a target that has ended, and process 1: nothing changes
+  0        signal 0, an ended target, and process 1: nothing changes
   EAGAIN   a realtime signal, and T has 16 queued
   else     0; the signal is pending until it is delivered
   example  2 kill 3 10
@@ -54,12 +54,12 @@ sigqueue: sends process T the signal, with a value.
   From a member of a transaction to no member:
   -200     signal 0
   EAGAIN   32 held already
-  0        else: it is held until the commit
+  else     0; the signal is held until the commit
   From all others, and among members:
   ESRCH    there is no process T
   EPERM    the sender's effective user id is not 0, and neither of its two ids,
            real and effective, is the target's real or saved user id
-  0        signal 0, a target that has ended, and process 1: nothing changes
+  0        signal 0, an ended target, and process 1: nothing changes
   EAGAIN   a realtime signal, and T has 16 queued
   else     0; the signal is pending until it is delivered
   example  2 sigqueue 3 32 -7
@@ -76,7 +76,7 @@ sigaction: says what signal V does when it is delivered.
   POINT    where the process goes on, 0 to 65535; in a program @NAME
   SET      which signals are blocked then too, or - for none
   EINVAL   V is not known, or is 9, or a catch point is over 65535
-  else     0; where V is now ignored, all its pending occurrences are discarded
+  else     0; if V is now ignored, all its pending occurrences are discarded
   example  2 sigaction 10 catch 4 -
 ",
     },
@@ -84,7 +84,7 @@ sigaction: says what signal V does when it is delivered.
         word: "sigprocmask",
         also: &["unblock"],
         text: "\
-sigprocmask: blocks these signals too, or no more, or alone.
+sigprocmask: adds to the mask, takes from it, or sets it.
   form     P sigprocmask block SET, or unblock, or set
   SET      signals, or - for none; signal 9 is never blocked
   else     0

@@ -24,8 +24,8 @@ members.
   form     P sys_xbegin, P sys_xbegin defer
            the second not in texts of version 1
   EINVAL   inside a transaction
-  else     0; when the transaction is aborted, this call has answered the
-           status instead, as a negative number: -201, -202 or -203
+  else     0; after an abort this call seems to have answered the status, as
+           a negative number: -201, -202 or -203
   example  2 sys_xbegin
 ",
     },
@@ -37,7 +37,7 @@ sys_xend: ends its part of its transaction.
   form     P sys_xend
   EINVAL   outside one
   else     0, and the process waits for the others' parts (N6); the reply is
-           committed where it was the last part
+           committed if it was the last part
   example  2 sys_xend
 ",
     },
