@@ -1,5 +1,7 @@
 //! Whether a reply is the expected one.
-ghost use Rattle.std.specs.Prelude.{◌≡◌, IfOk, option_map, true};
+ghost use Rattle.std.specs.Prelude.{◌≡◌, ◌++◌, ◌<◌, IfOk, codes, option_map, true};
+ghost use Rattle.std.specs.Fmt.{decimal};
+ghost use Rattle.std.specs.Str.{bytes_eq};
 ghost use Rattle.tx_expect.specs.Agreement as spec;
 ghost use Rattle.tx_state_text.specs.Replies.{reply_text};
 
@@ -50,14 +52,23 @@ fn spells(spelled: &mut String, text: &[u8], reply: &Reply) -> Result<bool, Allo
 
 /// Whether a text is that of an answer which is a digit: most are, and are worth no spelling.
 fn is_digit_of(text: &[u8], reply: &Reply) -> bool
-    ensures { result ≡ true → text.now ≡ reply_text reply.now }
+    ensures { result ≡ true → bytes_eq text.now (reply_text reply.now) ≡ true }
 {
-    match (text, reply) {
-        ([b'o', b'k', b' ', digit], Reply::Done(ret)) => {
-            digit.is_ascii_digit() && i64::from(*digit - b'0') == *ret
-        }
+    let Reply::Done(ret) = reply else {
+        return false;
+    };
+    match u8::try_from(*ret) {
+        Ok(digit) if digit < 10 => is_digit(text, digit),
         _ => false,
     }
+}
+
+/// Whether a text is that of the answer which is this digit.
+fn is_digit(text: &[u8], digit: u8) -> bool
+    requires { digit < 10 }
+    ensures { result ≡ bytes_eq text.now (codes "ok " ++ decimal digit) }
+{
+    text == [b'o', b'k', b' ', b'0' + digit].as_slice()
 }
 
 /// Whether a text is that of an error with its name in place of its number.
