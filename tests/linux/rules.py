@@ -30,8 +30,8 @@ SENTENCES = {
     "ended children stay": "An ended child stays until it is waited for, also where its parent",
     "one entry is dropped": "a realtime one by its first entry in the queue",
     "a standard signal has no value": "and a standard signal has none, whoever sent it",
-    "SIGPIPE is pending once": "A second standard signal that is pending already is lost",
-    "SIGKILL waits": "A pending signal waits for a delivery, also one that a process sent to",
+    "SIGPIPE is pending once": "A standard signal sent while it is pending is lost",
+    "SIGKILL waits": "A pending signal, even one that a process sent itself or that sigprocmask unblocks, waits",
     # By the refusal, or by the call.
     "a call waits": "A call that would wait is refused as N9",
     "SIGKILL is pending": "While signal 9 is pending at a process, each other step of it is N7",
