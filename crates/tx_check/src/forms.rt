@@ -159,6 +159,21 @@ pub static PIECES: [FormRow; 9] = [
     ("txn", "S", "the process that began the transaction"),
 ];
 
+/// The form of the call of that name.
+pub fn form_of_call(name: &[u8]) -> Option<Form> {
+    form_of(CALLS.as_slice(), name)
+}
+
+/// The form of the debugger's command of that name.
+pub fn form_of_command(name: &[u8]) -> Option<Form> {
+    form_of(COMMANDS.as_slice(), name)
+}
+
+/// The form of a session's command of that name.
+pub fn form_of_ask(name: &[u8]) -> Option<Form> {
+    form_of(SESSION.as_slice(), name)
+}
+
 /// The form of that name.
 pub fn form_of(forms: &'static [FormRow], name: &[u8]) -> Option<Form> {
     let (name, words, meaning) = *forms.iter().find(|form| form.0.as_bytes() == name)?;

@@ -3,7 +3,7 @@
 ghost use Rattle.std.specs.Prelude.{◌≡◌, IfSome};
 ghost use Rattle.tx_check.specs.Speaking.{kind_of_names, OfGrammar};
 
-use crate::forms::{CALLS, COMMANDS, Form, SESSION, form_of, is_among};
+use crate::forms::{Form, form_of_ask, form_of_call, form_of_command, is_among};
 use crate::trouble::Names;
 
 /// Calls that are left out, and what there is for them.
@@ -119,19 +119,19 @@ pub fn left_out(names: Names<'_>, word: &[u8]) -> Option<&'static str>
 /// The form of the call that people who come from elsewhere mean by a word.
 pub fn call_meant(word: &[u8]) -> Option<Form> {
     let name = beside(MEANT_CALLS.as_slice(), word)?;
-    form_of(CALLS.as_slice(), name.as_bytes())
+    form_of_call(name.as_bytes())
 }
 
 /// The form of the command of a session that they mean.
 pub fn session_meant(word: &[u8]) -> Option<Form> {
     let name = beside(MEANT_COMMANDS.as_slice(), word)?;
-    form_of(SESSION.as_slice(), name.as_bytes())
+    form_of_ask(name.as_bytes())
 }
 
 /// The form of the command of a text that they mean.
 pub fn command_meant(word: &[u8]) -> Option<Form> {
     let name = beside(MEANT_COMMANDS.as_slice(), word)?;
-    form_of(COMMANDS.as_slice(), name.as_bytes())
+    form_of_command(name.as_bytes())
 }
 
 /// What a table has beside some words of which that is one.

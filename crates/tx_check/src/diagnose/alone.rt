@@ -1,6 +1,6 @@
 //! What is wrong with a call that has no process before it.
 use crate::diagnose::calls::{call_trouble, sends_signal};
-use crate::forms::{CALLS, Form, form_of};
+use crate::forms::{Form, form_of_call};
 use crate::trouble::{Trouble, WordTrouble};
 use crate::words::Word;
 use tx_lines::{TextKind, Version};
@@ -8,7 +8,7 @@ use tx_lines::{TextKind, Version};
 /// What is wrong with a line whose first word is the name of a call, or begins with one. Nothing
 /// where it is another word.
 pub fn call_alone<'a>(first: Word<'a>, version: Version, line: &'a [u8]) -> Option<Trouble<'a>> {
-    let form = form_of(CALLS.as_slice(), name_in(first.bytes))?;
+    let form = form_of_call(name_in(first.bytes))?;
     let trouble = if is_whole(form, version, line) {
         WordTrouble::LineAlone(line)
     } else {

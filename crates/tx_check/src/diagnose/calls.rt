@@ -1,7 +1,7 @@
 //! What is wrong with a call, in a step or an instruction.
 use crate::diagnose::fields::field_trouble;
 use crate::diagnose::numbers::is_signal_name;
-use crate::forms::{CALLS, Form, field_of, form_of};
+use crate::forms::{Form, field_of, form_of_call};
 use crate::trouble::{LineTrouble, Names, Trouble, WordTrouble};
 use crate::words::{count_words, word_at};
 use tx_lines::{TextKind, Version};
@@ -27,7 +27,7 @@ pub fn call_trouble<'a>(
 /// The form of the call of that name in a text of that kind. A program has no deliveries, and
 /// chooses no numbers.
 fn call_form(kind: TextKind, name: &[u8]) -> Option<Form> {
-    let form = form_of(CALLS.as_slice(), name)?;
+    let form = form_of_call(name)?;
     match (kind, form.name) {
         (TextKind::Program, "deliver") => None,
         (TextKind::Program, "fork" | "pipe") => Some(Form {

@@ -2,7 +2,7 @@
 use crate::diagnose::alone::call_alone;
 use crate::diagnose::calls::{call_trouble, form_trouble};
 use crate::diagnose::numbers::no_number;
-use crate::forms::{COMMANDS, Form, SESSION, form_of};
+use crate::forms::{Form, form_of_ask, form_of_command};
 use crate::trouble::{LineTrouble, Trouble, WordTrouble};
 use crate::words::{Word, count_words, word_at};
 use tx_lines::{TextKind, Version, read_pid};
@@ -34,7 +34,7 @@ fn no_process<'a>(first: Word<'a>, version: Version, line: &'a [u8]) -> Trouble<
     if first.bytes == b"label".as_slice() {
         return Trouble::of_line(first.column, LineTrouble::LabelInSchedule);
     }
-    if form_of(COMMANDS.as_slice(), first.bytes).is_some() {
+    if form_of_command(first.bytes).is_some() {
         return Trouble::of_line(first.column, LineTrouble::CommandTooSoon);
     }
     if first.bytes == b"name".as_slice() {
@@ -43,7 +43,7 @@ fn no_process<'a>(first: Word<'a>, version: Version, line: &'a [u8]) -> Trouble<
     if let Some(trouble) = call_alone(first, version, line) {
         return trouble;
     }
-    if form_of(SESSION.as_slice(), first.bytes).is_some() {
+    if form_of_ask(first.bytes).is_some() {
         return Trouble::of_word(first, WordTrouble::SessionCommand);
     }
     match first.bytes {

@@ -1,7 +1,7 @@
 //! What is wrong with a line of a session that must be a command.
 use crate::diagnose::alone::call_alone;
 use crate::diagnose::calls::count_of;
-use crate::forms::{SESSION, form_of};
+use crate::forms::form_of_ask;
 use crate::session::pieces::{numbers_trouble, piece_trouble};
 use crate::trouble::{LineTrouble, Names, Trouble, WordTrouble};
 use crate::words::{Word, count_words, word_at};
@@ -10,7 +10,7 @@ use tx_lines::Version;
 /// What is wrong with the words of a line that begins as no step does.
 pub fn ask_trouble<'a>(version: Version, line: &'a [u8]) -> Option<Trouble<'a>> {
     let name = word_at(line, 0)?;
-    let Some(form) = form_of(SESSION.as_slice(), name.bytes) else {
+    let Some(form) = form_of_ask(name.bytes) else {
         return Some(no_ask(name, version, line));
     };
     let count = count_words(line).saturating_sub(1);

@@ -3,7 +3,7 @@ ghost use Rattle.std.specs.Prelude.{◌≡◌, false, is_some, true, IfNone, IfS
 ghost use Rattle.tx_translate.specs.Names.{is_name, process_in};
 
 use crate::diagnose::numbers::no_number;
-use crate::forms::{SESSION, form_of};
+use crate::forms::form_of_ask;
 use crate::own::own_word;
 use crate::placed::before_return;
 use crate::places::Part;
@@ -25,7 +25,7 @@ pub fn naming_trouble<'a>(part: Part, own: &'a [u8], found: Trouble<'a>) -> Trou
 /// What is wrong with the words of a line that begins with `name`. Nothing where it gives a name.
 fn wrong_in<'a>(line: &'a [u8]) -> Option<Trouble<'a>> {
     let first = own_word(line, 0)?;
-    let form = form_of(SESSION.as_slice(), first.bytes)?;
+    let form = form_of_ask(first.bytes)?;
     let count = count_own_words(line).saturating_sub(1);
     if count != 2 {
         return Some(Trouble::of_word(first, WordTrouble::Takes(form, count)));
