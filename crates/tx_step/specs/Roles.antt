@@ -1,5 +1,7 @@
 -- The role of a step, as the machine has it.
-use Rattle.std.specs.Prelude.{ℕ, Bool, Option, Some, None}
+use Rattle.std.specs.Prelude.{ℕ}
+use Rattle.tx_step.specs.declared.roles.Start.{Start}
+use Rattle.tx_step.specs.declared.roles.Start.TheVariants.{Nothing, Transaction}
 use Rattle.tx_step.specs.declared.roles.StepRole.{StepRole}
 use Rattle.tx_step.specs.declared.roles.StepRole.TheVariants as step
 use Rattle.tx_content.specs.Progresses.{part_of}
@@ -14,7 +16,7 @@ role_as p (step.Inside starter progress) = Within starter.0 (part_of progress)
 role_as p (step.Commits starter) = Commits starter.0
 role_as p (step.Aborts starter) = Aborts starter.0 called_by_status
 
--- what a step of a process that is in no transaction is, where it begins one that defers deliveries or not, or begins none
-abbrev pub role_alone : Option Bool → StepRole
-role_alone None = step.Outside
-role_alone (Some defers) = step.Begins defers
+-- what a step of a process that is in no transaction is, by what it begins
+abbrev pub role_alone : Start → StepRole
+role_alone Nothing = step.Outside
+role_alone (Transaction defers) = step.Begins defers

@@ -8,12 +8,12 @@ ghost use Rattle.tx_content.specs.Content.{view_of};
 ghost use Rattle.tx_model.specs.Membership.{is_live};
 ghost use Rattle.tx_model.specs.View.{kernel_status};
 ghost use Rattle.tx_step.specs.Requests.{step_of};
+ghost use Rattle.tx_step.specs.declared.request.Request.{Request as TheRequest};
 ghost use Rattle.tx_step.specs.Steps.{IsStep, Takes};
 ghost use Rattle.tx_step.specs.Through.{IsLetThrough};
 
 use crate::answered::Answered;
 use crate::laws::laws;
-use crate::request::Request;
 use tx_base::{ABORTED_BY_CALL, ABORTED_BY_KERNEL, ABORTED_DOOMED, Pid};
 use tx_content::{Content, Inverse};
 
@@ -22,12 +22,14 @@ pub(crate) fn take_abort(
     content: &mut Content,
     pid: Pid,
     starter: Pid,
-    _request: Request,
     inverse: &mut Inverse,
 ) -> Answered
     requires content { IsContent content.old }
-    requires through { IsLetThrough content.old pid _request (role.Aborts starter) }
-    ensures { Takes content.old (step_of pid _request.entry) (Ok result) inverse.new content.new }
+    requires through { (request : TheRequest) ×
+        IsLetThrough content.old pid request (role.Aborts starter) }
+    ensures { (request : TheRequest) →
+        IsLetThrough content.old pid request (role.Aborts starter) →
+        Takes content.old (step_of pid request) (Ok result) inverse.new content.new }
 {
     laws();
     content.abort(starter, -i64::from(ABORTED_BY_CALL), inverse);

@@ -2,12 +2,12 @@
 ghost use Rattle.tx_step.specs.Contents.{IsContent};
 ghost use Rattle.tx_step.specs.declared.roles.StepRole.TheVariants as role;
 ghost use Rattle.tx_step.specs.Requests.{step_of};
+ghost use Rattle.tx_step.specs.declared.request.Request.{Request as TheRequest};
 ghost use Rattle.tx_step.specs.Steps.{Takes};
 ghost use Rattle.tx_step.specs.Through.{IsLetThrough};
 
 use crate::answered::Answered;
 use crate::laws::laws;
-use crate::request::Request;
 use std::alloc::Global;
 use tx_base::{NoMemory, Pid, Refusal};
 use tx_content::{Content, Inverse};
@@ -21,12 +21,14 @@ pub(crate) fn take_begin(
     alloc: Global,
     pid: Pid,
     defers: bool,
-    _request: Request,
     inverse: &mut Inverse,
 ) -> Result<Answered, Refusal>
     requires content { IsContent content.old }
-    requires through { IsLetThrough content.old pid _request (role.Begins defers) }
-    ensures { Takes content.old (step_of pid _request.entry) result inverse.new content.new }
+    requires through { (request : TheRequest) ×
+        IsLetThrough content.old pid request (role.Begins defers) }
+    ensures { (request : TheRequest) →
+        IsLetThrough content.old pid request (role.Begins defers) →
+        Takes content.old (step_of pid request) result inverse.new content.new }
 {
     laws();
     match content.begin(alloc, pid, defers, inverse) {

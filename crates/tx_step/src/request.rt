@@ -23,7 +23,7 @@ ghost use Rattle.tx_step.specs.Ways.{posted_with};
 
 use crate::early::{early_refusal_of_call, early_refusal_of_delivery};
 use crate::refusal_laws::{contents_are_whole, laws, posts_are_sends};
-use crate::roles::{StepRole, beginning, role_of_call, role_of_delivery};
+use crate::roles::{Start, StepRole, beginning, role_of_call, role_of_delivery};
 use crate::ways::{actor_of, way_of_call, way_of_delivery};
 use tx_base::{Call, Pid, Refusal, Signo};
 use tx_content::Content;
@@ -78,8 +78,8 @@ impl<'a> Request<'a> {
         }
     }
 
-    /// If no transaction is live: whether it begins one, and then whether that defers deliveries.
-    pub(crate) fn beginning(self, content: &Content, pid: Pid) -> Option<bool>
+    /// What it begins, if no transaction is live.
+    pub(crate) fn beginning(self, content: &Content, pid: Pid) -> Start
         requires content { IsContent content.now }
         requires running { IsRunning (slot_at content.now.parts.procs pid.0) }
         requires idle { IsIdle content.now }
@@ -90,7 +90,7 @@ impl<'a> Request<'a> {
         endings();
         match self {
             Request::Call(call) => beginning(call),
-            Request::Delivery(_) => None,
+            Request::Delivery(_) => Start::Nothing,
         }
     }
 

@@ -39,6 +39,14 @@ pub enum StepRole {
     Aborts(Pid),
 }
 
+/// What a call of a process that is in no transaction begins.
+#[derive(Clone, Copy)]
+pub(crate) enum Start {
+    Nothing,
+    /// A transaction; whether that defers deliveries.
+    Transaction { defers: bool },
+}
+
 /// The role of a call of a process that runs. It takes no memory.
 #[inline(always)] // it has few callers, and each step asks it
 pub fn role_of_call(content: &Content, pid: Pid, call: &Call) -> StepRole
@@ -76,26 +84,25 @@ pub fn role_of_delivery(content: &Content, pid: Pid, signo: Signo) -> StepRole
     }
 }
 
-/// Whether a call of a process that is in no transaction begins one, and then whether that defers
-/// deliveries.
-pub(crate) fn beginning(call: &Call) -> Option<bool>
+/// What a call of a process that is in no transaction begins.
+pub(crate) fn beginning(call: &Call) -> Start
     ensures { (table : Table) (p : ℕ) (reply : Reply) →
         role_as p (role_alone result) ≡ kind_role table p (kind_of call.now) reply None }
 {
     match call {
-        Call::SysXbegin => Some(false),
-        Call::SysXbeginDefer => Some(true),
-        _ => None,
+        Call::SysXbegin => Start::Transaction { defers: false },
+        Call::SysXbeginDefer => Start::Transaction { defers: true },
+        _ => Start::Nothing,
     }
 }
 
 /// The role of a step of a process that is in no transaction.
-fn role_alone(beginning: Option<bool>) -> StepRole
+fn role_alone(beginning: Start) -> StepRole
     ensures { result ≡ role_alone beginning }
 {
     match beginning {
-        Some(defers) => StepRole::Begins(defers),
-        None => StepRole::Outside,
+        Start::Transaction { defers } => StepRole::Begins(defers),
+        Start::Nothing => StepRole::Outside,
     }
 }
 

@@ -18,7 +18,7 @@ use crate::inside::take_inside;
 use crate::laws::laws;
 use crate::outside::take_outside;
 use crate::request::Request;
-use crate::roles::StepRole;
+use crate::roles::{Start, StepRole};
 use std::alloc::Global;
 use tx_base::{Call, Pid, Refusal, Signo};
 use tx_content::{Content, Inverse};
@@ -103,8 +103,8 @@ fn take_alone(
 {
     laws();
     match request.beginning(content, pid) {
-        Some(defers) => take_begin(content, alloc, pid, defers, request, inverse),
-        None => take_outside(content, alloc, pid, request, inverse),
+        Start::Transaction { defers } => take_begin(content, alloc, pid, defers, inverse),
+        Start::Nothing => take_outside(content, alloc, pid, request, inverse),
     }
 }
 
@@ -126,13 +126,13 @@ fn take_as(
 {
     match role {
         StepRole::Outside => take_outside(content, alloc, pid, request, inverse),
-        StepRole::Begins(defers) => take_begin(content, alloc, pid, defers, request, inverse),
+        StepRole::Begins(defers) => take_begin(content, alloc, pid, defers, inverse),
         StepRole::Inside(starter, progress) => {
             take_inside(
                 content, alloc, pid, starter, progress, request, footprint, inverse,
             )
         }
         StepRole::Commits(starter) => take_end(content, alloc, pid, starter, request, inverse),
-        StepRole::Aborts(starter) => Ok(take_abort(content, pid, starter, request, inverse)),
+        StepRole::Aborts(starter) => Ok(take_abort(content, pid, starter, inverse)),
     }
 }
