@@ -5,7 +5,6 @@ use Rattle.std.proofs.lemmas.List.{length-take-le, take-append-drop}
 use Rattle.tx_base.specs.SlotFacts.{length-with_slot, slot_now, slot_same, slot_twice}
 use Rattle.tx_base.specs.Slots.{slot_at, with_slot}
 use Rattle.tx_base.specs.declared.marks.Mark.{Mark}
-use Rattle.tx_base.specs.declared.names.Pid.{Pid}
 use Rattle.tx_base.specs.declared.names.Sending.{Sending}
 use Rattle.tx_change.specs.Exchange.{applied, exchanged, reverted, sizes_of, undone, Sizes, AreNamed, AreWithin}
 use Rattle.tx_change.specs.Laws.{BringPlaces}
@@ -19,11 +18,12 @@ use Rattle.tx_content.proofs.Others.{owned_by}
 use Rattle.tx_content.specs.Content.{IsShaped, IsTxn}
 use Rattle.tx_content.specs.Inverses.{first_of, last_of, less_last, remarked, step_back, with_txn, HasLog, HasMark, UndoesInside}
 use Rattle.tx_content.specs.Laws.{LiveLaws}
-use Rattle.tx_content.specs.Redone.{mark_there, with_last, HasStep, IsLastOf, IsTakenBack}
+use Rattle.tx_content.specs.Redone.{mark_there, turned, with_last, HasStep, IsLastOf, IsTakenBack}
 use Rattle.tx_content.specs.declared.content.BoxedTxn.{BoxedTxn}
 use Rattle.tx_content.specs.declared.content.Content.{Content}
 use Rattle.tx_content.specs.declared.inverse.Inverse.TheVariants.{Inside}
 use Rattle.tx_content.specs.declared.marking.Marked.{Marked}
+use Rattle.tx_content.specs.declared.member_step.MemberStep.{MemberStep}
 use Rattle.tx_content.specs.declared.undone.Undone.TheVariants as undo
 use Rattle.tx_model.specs.State.{Object}
 use Rattle.tx_reserve.specs.Objects.{is_in}
@@ -92,27 +92,27 @@ less_same true sendings posts None is = λ i. record {
   posts = sym (none_left_out posts is.1) i;
 }
 
-module _ (laws : LiveLaws) (k before : Content) (starter : Pid) (count : ℕ) (objects : Objects) (marked : Option Marked) (held : Bool) (last : Option Sending) (boxed : BoxedTxn) (stack moved : List Change)
-    (shaped : IsShaped k) (has : HasLog k starter count boxed) (mark : HasMark k.marks marked) (undoes : UndoesInside k starter count objects marked held before boxed)
-    (moved_is : moved ≡ moved_onto stack k.parts (last_of count boxed.txn.value.log)) (is_last : IsLastOf held boxed.txn.value.outbox last) where
+module _ (laws : LiveLaws) (k before : Content) (step : MemberStep) (held : Bool) (last : Option Sending) (boxed : BoxedTxn) (stack moved : List Change)
+    (shaped : IsShaped k) (has : HasLog k step.starter step.count boxed) (mark : HasMark k.marks step.marked) (undoes : UndoesInside k step held before boxed)
+    (moved_is : moved ≡ moved_onto stack k.parts (last_of step.count boxed.txn.value.log)) (is_last : IsLastOf held boxed.txn.value.outbox last) where
   abbrev s : ℕ
-  s = starter.0
+  s = step.starter.0
 
   abbrev t0 : Txn
   t0 = boxed.txn.value
 
   abbrev own : List Change
-  own = last_of count t0.log
+  own = last_of step.count t0.log
 
   abbrev U : Parts
   U = undone k.parts own
 
   abbrev left : Option Marked
-  left = mark_there marked k.marks
+  left = mark_there step.marked k.marks
 
   -- the transaction before the step
   abbrev t1 : Txn
-  t1 = step_back count objects held t0
+  t1 = step_back step held t0
 
   was : IsTxn k s t0
   was = shaped.each s boxed has.there
@@ -120,37 +120,37 @@ module _ (laws : LiveLaws) (k before : Content) (starter : Pid) (count : ℕ) (o
   bounds : (1 ≤ s) × (s ≤ length k.txns)
   bounds = slot_there k.txns s boxed has.there
 
-  long : length own ≡ count
-  long = let all = length-drop (length t0.log - count) t0.log in let few = has.few in omega (arith, all, few)
+  long : length own ≡ step.count
+  long = let all = length-drop (length t0.log - step.count) t0.log in let few = has.few in omega (arith, all, few)
 
-  whole : first_of count t0.log ++ own ≡ t0.log
-  whole = take-append-drop (length t0.log - count) t0.log
+  whole : first_of step.count t0.log ++ own ≡ t0.log
+  whole = take-append-drop (length t0.log - step.count) t0.log
 
   named_own : AreNamed k.parts own
-  named_own = named_later (sizes_of k.parts) (first_of count t0.log) own (subst (AreNamed k.parts) (sym whole) was.named)
+  named_own = named_later (sizes_of k.parts) (first_of step.count t0.log) own (subst (AreNamed k.parts) (sym whole) was.named)
 
   brings_own : BringPlaces own
-  brings_own = brings_later (first_of count t0.log) own (subst BringPlaces (sym whole) was.brings)
+  brings_own = brings_later (first_of step.count t0.log) own (subst BringPlaces (sym whole) was.brings)
 
-  top_is : top_of count moved ≡ reverted k.parts own
-  top_is = ap (top_of count) moved_is ∙ subst (λ (n : ℕ). top_of n (moved_onto stack k.parts own) ≡ reverted k.parts own) long (laws.on_top stack k.parts own)
+  top_is : top_of step.count moved ≡ reverted k.parts own
+  top_is = ap (top_of step.count) moved_is ∙ subst (λ (n : ℕ). top_of n (moved_onto stack k.parts own) ≡ reverted k.parts own) long (laws.on_top stack k.parts own)
 
-  few_moved : count ≤ length moved
-  few_moved = subst (λ (cs : List Change). count ≤ length cs) (sym moved_is) (subst (λ (n : ℕ). n ≤ length (moved_onto stack k.parts own)) long (laws.moved stack k.parts own))
+  few_moved : step.count ≤ length moved
+  few_moved = subst (λ (cs : List Change). step.count ≤ length cs) (sym moved_is) (subst (λ (n : ℕ). n ≤ length (moved_onto stack k.parts own)) long (laws.moved stack k.parts own))
 
-  below_is : below_top count moved ≡ stack
-  below_is = ap (below_top count) moved_is ∙ subst (λ (n : ℕ). below_top n (moved_onto stack k.parts own) ≡ stack) long (laws.below stack k.parts own)
+  below_is : below_top step.count moved ≡ stack
+  below_is = ap (below_top step.count) moved_is ∙ subst (λ (n : ℕ). below_top n (moved_onto stack k.parts own) ≡ stack) long (laws.below stack k.parts own)
 
-  log_again : first_of count t0.log ++ exchanged U (top_of count moved) ≡ t0.log
-  log_again = ap (λ (cs : List Change). first_of count t0.log ++ exchanged U cs) top_is
-      ∙ ap (λ (cs : List Change). first_of count t0.log ++ cs) (laws.come_back k.parts own named_own brings_own shaped.places) ∙ whole
+  log_again : first_of step.count t0.log ++ exchanged U (top_of step.count moved) ≡ t0.log
+  log_again = ap (λ (cs : List Change). first_of step.count t0.log ++ exchanged U cs) top_is
+      ∙ ap (λ (cs : List Change). first_of step.count t0.log ++ cs) (laws.come_back k.parts own named_own brings_own shaped.places) ∙ whole
 
   outbox_again : with_last last (less_last held t0.outbox) ≡ t0.outbox
   outbox_again = held_again held t0.outbox.sendings t0.outbox.posts last was.posts is_last
 
   -- the content before, but for what is known of its owners
   abbrev prior : Content
-  prior = record { parts = U; marks = remarked marked k.marks; owners = before.owners; txns = with_slot k.txns s (Some (with_txn boxed t1)) }
+  prior = record { parts = U; marks = remarked step.marked k.marks; owners = before.owners; txns = with_slot k.txns s (Some (with_txn boxed t1)) }
 
   prior_is : prior ≡ before
   prior_is = λ i. record { parts = undoes.parts i; marks = undoes.marks i; owners = before.owners; txns = undoes.txns i }
@@ -161,35 +161,35 @@ module _ (laws : LiveLaws) (k before : Content) (starter : Pid) (count : ℕ) (o
   owners_again : (o : Object) → owner_of k.owners o ≡ (if is_in t0.objects o then Some t0.starter.0 else owner_of before.owners o)
   owners_again o = elim (cases_Bool (is_in t0.objects o)) [
     | inl e ↦ rw e (owned_by s (owner_of k.owners o) (sym (was.objects o) ∙ e) ∙ ap Some (sym was.starter))
-    | inr e ↦ rw e (sym (undoes.owners o ∙ ap (λ (b : Bool). if b && not (is_in objects o) then None else owner_of k.owners o) e))
+    | inr e ↦ rw e (sym (undoes.owners o ∙ ap (λ (b : Bool). if b && not (is_in step.objects o) then None else owner_of k.owners o) e))
   ]
 
-  has_step : HasStep prior starter count left moved
+  has_step : HasStep prior (turned k boxed step) moved
   has_step = record {
     boxed = with_txn boxed t1;
     there = there_prior;
     few = few_moved;
     named = subst (AreNamed U) (sym top_is) (led_named laws k.parts own named_own);
-    mark = has_there marked k.marks mark;
+    mark = has_there step.marked k.marks mark;
   }
 
-  again_here : IsTakenBack prior (undo.Inside starter count t0.objects left last) moved k stack
+  again_here : IsTakenBack prior (undo.Inside (turned k boxed step) last) moved k stack
   again_here = record {
-    inverse = Inside starter count objects marked (is_some last);
+    inverse = Inside step (is_some last);
     fits = has_step;
     redoes = (
       with_txn boxed t1,
       record {
         there = there_prior;
         parts = ap (applied U) top_is ∙ laws.apply_again k.parts own named_own;
-        marks = marks_again marked k.marks mark;
+        marks = marks_again step.marked k.marks mark;
         owners = owners_again;
         sized = shaped.owners;
-        txns = slot_twice k.txns s (Some (with_txn boxed t1)) (Some (with_txn boxed (record t0 { log = first_of count t0.log ++ exchanged U (top_of count moved); outbox = with_last last (less_last held t0.outbox) })))
+        txns = slot_twice k.txns s (Some (with_txn boxed t1)) (Some (with_txn boxed (record t0 { log = first_of step.count t0.log ++ exchanged U (top_of step.count moved); outbox = with_last last (less_last held t0.outbox) })))
             ∙ (λ i. with_slot k.txns s (Some (with_txn boxed (record t0 { log = log_again i; outbox = outbox_again i }))))
             ∙ ap (with_slot k.txns s) (sym has.there) ∙ slot_same k.txns s bounds.0;
       },
-      (λ i. Inside starter count objects (mark_same marked k.marks mark i) (is_some last)),
+      (λ i. Inside (record step { marked = mark_same step.marked k.marks mark i }) (is_some last)),
     );
     below = below_is;
     goes = ((boxed, has), mark);
@@ -207,15 +207,15 @@ module _ (laws : LiveLaws) (k before : Content) (starter : Pid) (count : ℕ) (o
     );
   }
 
-  inside_here : IsTakenBack before (undo.Inside starter count t0.objects left last) moved k stack
-  inside_here = subst (λ (b : Content). IsTakenBack b (undo.Inside starter count t0.objects left last) moved k stack) prior_is again_here
+  inside_here : IsTakenBack before (undo.Inside (turned k boxed step) last) moved k stack
+  inside_here = subst (λ (b : Content). IsTakenBack b (undo.Inside (turned k boxed step) last) moved k stack) prior_is again_here
 
-pub inside_again : LiveLaws → (k before : Content) (starter : Pid) (count : ℕ) (objects after : Objects) (marked left : Option Marked) (held : Bool) (last : Option Sending) (boxed : BoxedTxn) (txn old : Txn) (stack moved : List Change) →
-    IsShaped k → HasLog k starter count boxed → HasMark k.marks marked → UndoesInside k starter count objects marked held before boxed →
-    txn ≡ boxed.txn.value → old ≡ boxed.txn.value → after ≡ old.objects → left ≡ mark_there marked k.marks → moved ≡ moved_onto stack k.parts (last_of count txn.log) → IsLastOf held txn.outbox last →
-    IsTakenBack before (undo.Inside starter count after left last) moved k stack
-inside_again laws k before starter count objects after marked left held last boxed txn old stack moved shaped has mark undoes is was_is after_is left_is moved_is is_last =
-    subst (λ (os : Objects). IsTakenBack before (undo.Inside starter count os left last) moved k stack) (sym (after_is ∙ ap (λ (t : Txn). t.objects) was_is))
-    (subst (λ (m : Option Marked). IsTakenBack before (undo.Inside starter count boxed.txn.value.objects m last) moved k stack) (sym left_is)
-    (inside_here laws k before starter count objects marked held last boxed stack moved shaped has mark undoes
-    (moved_is ∙ ap (λ (t : Txn). moved_onto stack k.parts (last_of count t.log)) is) (subst (λ (t : Txn). IsLastOf held t.outbox last) is is_last)))
+pub inside_again : LiveLaws → (k before : Content) (step : MemberStep) (after : Objects) (left : Option Marked) (held : Bool) (last : Option Sending) (boxed : BoxedTxn) (txn old : Txn) (stack moved : List Change) →
+    IsShaped k → HasLog k step.starter step.count boxed → HasMark k.marks step.marked → UndoesInside k step held before boxed →
+    txn ≡ boxed.txn.value → old ≡ boxed.txn.value → after ≡ old.objects → left ≡ mark_there step.marked k.marks → moved ≡ moved_onto stack k.parts (last_of step.count txn.log) → IsLastOf held txn.outbox last →
+    IsTakenBack before (undo.Inside (record step { objects = after; marked = left }) last) moved k stack
+inside_again laws k before step after left held last boxed txn old stack moved shaped has mark undoes is was_is after_is left_is moved_is is_last =
+    subst (λ (os : Objects). IsTakenBack before (undo.Inside (record step { objects = os; marked = left }) last) moved k stack) (sym (after_is ∙ ap (λ (t : Txn). t.objects) was_is))
+    (subst (λ (m : Option Marked). IsTakenBack before (undo.Inside (record step { objects = boxed.txn.value.objects; marked = m }) last) moved k stack) (sym left_is)
+    (inside_here laws k before step held last boxed stack moved shaped has mark undoes
+    (moved_is ∙ ap (λ (t : Txn). moved_onto stack k.parts (last_of step.count t.log)) is) (subst (λ (t : Txn). IsLastOf held t.outbox last) is is_last)))

@@ -39,6 +39,7 @@ use Rattle.tx_content.specs.declared.inverse.Inverse.TheVariants.{Inside}
 use Rattle.tx_content.specs.declared.marking.Marked.{Marked}
 use Rattle.tx_content.specs.declared.marking.Progress.{Progress}
 use Rattle.tx_content.specs.declared.marking.Progress.TheVariants.{Continues, Parks, Forks}
+use Rattle.tx_content.specs.declared.member_step.MemberStep.{MemberStep}
 use Rattle.tx_model.specs.Effects.{Inside as InsideOf}
 use Rattle.tx_model.specs.Events.{Event, actor, effect, objects, reply_of}
 use Rattle.tx_model.specs.History.{event_footprint, objects_reserved, targets}
@@ -226,6 +227,10 @@ module _ (laws : LiveLaws) (old new : Content) (pid starter : Pid) (act : Act) (
 
   abbrev box1 : BoxedTxn
   box1 = with_txn boxed after
+
+  -- the step, as its inverse has it
+  abbrev step : MemberStep
+  step = record { starter = starter; count = stepped.count; objects = stepped.before; marked = marked }
 
   abbrev S : State
   S = now_of old
@@ -570,7 +575,7 @@ module _ (laws : LiveLaws) (old new : Content) (pid starter : Pid) (act : Act) (
     first_is : first_of stepped.count after.log ≡ t0.log
     first_is = (λ j. take (front_long j) (log_is j)) ∙ take_at t0.log kept (length t0.log) refl
 
-    back_is : step_back stepped.count stepped.before (is_handed_out stepped.planned.sends) after ≡ t0
+    back_is : step_back step (is_handed_out stepped.planned.sends) after ≡ t0
     back_is = λ j. record {
       starter = starter_is j;
       defers = defers_is j;
@@ -581,7 +586,7 @@ module _ (laws : LiveLaws) (old new : Content) (pid starter : Pid) (act : Act) (
       members = (ap (λ (t : Txn). t.members) steps.rest ∙ ap (λ (t : Txn). t.members) made_in.rest) j;
     }
 
-    undoes : UndoesInside new starter stepped.count stepped.before marked (is_handed_out stepped.planned.sends) old box1
+    undoes : UndoesInside new step (is_handed_out stepped.planned.sends) old box1
     undoes = record {
       there = slot_s;
       parts = ap (undone new.parts) last_is ∙ makes.back;
@@ -589,15 +594,15 @@ module _ (laws : LiveLaws) (old new : Content) (pid starter : Pid) (act : Act) (
       owners = λ o. (owned_after s (owner_of old.owners o) (is_in t0.objects o) (is_in footprint o) (was.objects o) (free o)).1
           ∙ sym (λ j. if objects_after o j && not (is_in ((steps.reserved ∙ middle_objects) j) o) then None else owns o j);
       sized = shaped.owners;
-      txns = ap (λ (ts : List (Option BoxedTxn)). with_slot ts s (Some (with_txn box1 (step_back stepped.count stepped.before (is_handed_out stepped.planned.sends) after)))) txns
-          ∙ slot_twice old.txns s (Some box1) (Some (with_txn box1 (step_back stepped.count stepped.before (is_handed_out stepped.planned.sends) after)))
+      txns = ap (λ (ts : List (Option BoxedTxn)). with_slot ts s (Some (with_txn box1 (step_back step (is_handed_out stepped.planned.sends) after)))) txns
+          ∙ slot_twice old.txns s (Some box1) (Some (with_txn box1 (step_back step (is_handed_out stepped.planned.sends) after)))
           ∙ ap (λ (t : Txn). with_slot old.txns s (Some (with_txn boxed t))) back_is ∙ ap (with_slot old.txns s) (sym there) ∙ slot_same old.txns s bounds.0;
     }
 
     has_log : HasLog new starter stepped.count box1
     has_log = record { there = slot_s; named = named_log; few = count_few; same = starter_is ∙ (λ j. record { 0 = was.starter j }) }
 
-    inside_made : IsMade old (Within s (part_of progress)) event pid.0 new (Inside starter stepped.count stepped.before marked (is_handed_out stepped.planned.sends))
+    inside_made : IsMade old (Within s (part_of progress)) event pid.0 new (Inside step (is_handed_out stepped.planned.sends))
     unfolding named_by view_of
     inside_made = record {
       records = newest_first kept;
@@ -618,9 +623,9 @@ module _ (laws : LiveLaws) (old new : Content) (pid starter : Pid) (act : Act) (
 
   -- the same of the event as the content tells it
   pub made_inside : FitsWithin s (part_of progress) (event_of (inside_in old starter) pid act) pid.0 (view_of old) →
-      IsMade old (Within s (part_of progress)) (event_of (inside_in old starter) pid act) pid.0 new (Inside starter stepped.count stepped.before marked (is_handed_out stepped.planned.sends))
+      IsMade old (Within s (part_of progress)) (event_of (inside_in old starter) pid act) pid.0 new (Inside step (is_handed_out stepped.planned.sends))
   made_inside fits =
-      subst (λ (ev : Event). IsMade old (Within s (part_of progress)) ev pid.0 new (Inside starter stepped.count stepped.before marked (is_handed_out stepped.planned.sends))) (sym event_is)
+      subst (λ (ev : Event). IsMade old (Within s (part_of progress)) ev pid.0 new (Inside step (is_handed_out stepped.planned.sends))) (sym event_is)
       (inside_made (subst (λ (ev : Event). FitsWithin s (part_of progress) ev pid.0 (view_of old)) event_is fits))
 
   pub answers_inside : Answers old (event_of (inside_in old starter) pid act) pid new stepped.planned.outcome

@@ -16,13 +16,12 @@ use Rattle.tx_content.specs.Laws.{LiveLaws}
 use Rattle.tx_content.specs.Redone.{step_again, RedoesAborted, RedoesBegun, RedoesInside}
 use Rattle.tx_content.specs.declared.content.BoxedTxn.{BoxedTxn}
 use Rattle.tx_content.specs.declared.content.Content.{Content}
-use Rattle.tx_content.specs.declared.marking.Marked.{Marked}
+use Rattle.tx_content.specs.declared.member_step.MemberStep.{MemberStep}
 use Rattle.tx_model.specs.Membership.{mark_unless_of}
 use Rattle.tx_model.specs.State.{Object}
 use Rattle.tx_proc.specs.declared.proc.Answer.{Answer as TheAnswer}
 use Rattle.tx_reserve.specs.Objects.{is_in}
 use Rattle.tx_reserve.specs.Reservations.{owner_of}
-use Rattle.tx_reserve.specs.declared.objects.Objects.{Objects}
 use Rattle.tx_txn.specs.declared.txn.Txn.{Txn}
 
 -- a first step was made again
@@ -39,17 +38,17 @@ begun_made laws k new after boxed mark starter txn objects log named is later pa
 }
 
 -- a step inside of a transaction was made again
-pub inside_made : LiveLaws → (k new after : Content) (starter : Pid) (count : ℕ) (objects : Objects) (marked : Option Marked) (held : Option Sending) (stack : List Change) (boxed other : BoxedTxn) (txn made : Txn) →
-    slot_at k.txns starter.0 ≡ Some boxed → txn ≡ boxed.txn.value → new.parts ≡ applied k.parts (top_of count stack) → new.marks ≡ remarked marked k.marks →
-    ((o : Object) → owner_of new.owners o ≡ (if is_in objects o then Some txn.starter.0 else owner_of k.owners o)) → length new.owners ≡ 352 →
-    made ≡ step_again k.parts (top_of count stack) objects held txn → new.txns ≡ with_slot k.txns starter.0 (Some (with_txn boxed made)) →
-    RedoesInside k starter count objects marked held stack after other → new ≡ after
-inside_made laws k new after starter count objects marked held stack boxed other txn made there is parts marks owns sized stepped txns redoes = λ j. record {
+pub inside_made : LiveLaws → (k new after : Content) (step : MemberStep) (held : Option Sending) (stack : List Change) (boxed other : BoxedTxn) (txn made : Txn) →
+    slot_at k.txns step.starter.0 ≡ Some boxed → txn ≡ boxed.txn.value → new.parts ≡ applied k.parts (top_of step.count stack) → new.marks ≡ remarked step.marked k.marks →
+    ((o : Object) → owner_of new.owners o ≡ (if is_in step.objects o then Some txn.starter.0 else owner_of k.owners o)) → length new.owners ≡ 352 →
+    made ≡ step_again k.parts step held stack txn → new.txns ≡ with_slot k.txns step.starter.0 (Some (with_txn boxed made)) →
+    RedoesInside k step held stack after other → new ≡ after
+inside_made laws k new after step held stack boxed other txn made there is parts marks owns sized stepped txns redoes = λ j. record {
   parts = (parts ∙ redoes.parts) j;
   marks = (marks ∙ redoes.marks) j;
   owners = laws.told new.owners after.owners sized redoes.sized
-      (λ o. owns o ∙ (λ i. if is_in objects o then Some (txn_is i).starter.0 else owner_of k.owners o) ∙ sym (redoes.owners o)) j;
-  txns = (txns ∙ (λ i. with_slot k.txns starter.0 (Some (with_txn (box_is i) ((stepped ∙ ap (step_again k.parts (top_of count stack) objects held) txn_is) i)))) ∙ redoes.txns) j;
+      (λ o. owns o ∙ (λ i. if is_in step.objects o then Some (txn_is i).starter.0 else owner_of k.owners o) ∙ sym (redoes.owners o)) j;
+  txns = (txns ∙ (λ i. with_slot k.txns step.starter.0 (Some (with_txn (box_is i) ((stepped ∙ ap (step_again k.parts step held stack) txn_is) i)))) ∙ redoes.txns) j;
 }
   where
     box_is : boxed ≡ other

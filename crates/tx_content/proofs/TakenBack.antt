@@ -7,19 +7,12 @@ use Rattle.tx_base.specs.SlotFacts.{slot_twice}
 use Rattle.tx_base.specs.Slots.{slot_at, with_slot}
 use Rattle.tx_base.specs.declared.names.Pid.{Pid}
 use Rattle.tx_change.specs.Exchange.{applied, undone}
-use Rattle.tx_change.specs.declared.change.Change.{Change}
 use Rattle.tx_content.specs.Aborts.{forth_parts, forth_txn}
-use Rattle.tx_content.specs.Content.{IsShaped}
-use Rattle.tx_content.specs.CrossingFacts.{back_of, forward_so}
-use Rattle.tx_content.specs.Crossings.{inverse_at, HoldsBack, HoldsForward}
-use Rattle.tx_content.specs.Inverses.{first_of, last_of, less_last, none_made, post_changes, remarked, step_back, unposted_all, with_txn, Revives, Undoes, UndoesAborted, UndoesBegun, UndoesCommitted, UndoesInside}
+use Rattle.tx_content.specs.Inverses.{first_of, last_of, less_last, none_made, post_changes, remarked, step_back, unposted_all, with_txn, Revives, UndoesAborted, UndoesBegun, UndoesCommitted, UndoesInside}
 use Rattle.tx_content.specs.Laws.{LiveLaws}
 use Rattle.tx_content.specs.declared.content.BoxedTxn.{BoxedTxn}
-use Rattle.tx_content.specs.Redone.{EndsWhole, IsTakenBack}
 use Rattle.tx_content.specs.declared.content.Content.{Content}
-use Rattle.tx_content.specs.declared.crossing.Crossing.{Crossing}
-use Rattle.tx_content.specs.declared.inverse.Inverse.{Inverse}
-use Rattle.tx_content.specs.declared.marking.Marked.{Marked}
+use Rattle.tx_content.specs.declared.member_step.MemberStep.{MemberStep}
 use Rattle.tx_model.specs.State.{Object, Proc}
 use Rattle.tx_proc.specs.declared.proc.Answer.{Answer as TheAnswer}
 use Rattle.tx_reserve.specs.Objects.{is_in}
@@ -38,17 +31,17 @@ pub put_changed : (old taken new : List (Option BoxedTxn)) (n : ℕ) (slot : Opt
 put_changed old taken new n slot emptied now = now ∙ ap (λ (slots : List (Option BoxedTxn)). with_slot slots n slot) emptied ∙ slot_twice old n None slot
 
 -- a step inside of a transaction was taken back
-pub inside_taken : LiveLaws → (k new prior : Content) (starter : Pid) (count : ℕ) (before : Objects) (marked : Option Marked) (held : Bool) (boxed other : BoxedTxn) (txn after : Txn) →
-    slot_at k.txns starter.0 ≡ Some boxed → txn ≡ boxed.txn.value → new.parts ≡ undone k.parts (last_of count txn.log) → new.marks ≡ remarked marked k.marks →
-    ((o : Object) → owner_of new.owners o ≡ (if is_in txn.objects o && not (is_in before o) then None else owner_of k.owners o)) → length new.owners ≡ 352 →
-    after ≡ step_back count before held txn → new.txns ≡ with_slot k.txns starter.0 (Some (with_txn boxed after)) →
-    UndoesInside k starter count before marked held prior other → new ≡ prior
-inside_taken laws k new prior starter count before marked held boxed other txn after there is parts marks owns sized stepped txns undoes = λ j. record {
-  parts = (parts ∙ ap (λ (t : Txn). undone k.parts (last_of count t.log)) txn_is ∙ undoes.parts) j;
+pub inside_taken : LiveLaws → (k new prior : Content) (step : MemberStep) (held : Bool) (boxed other : BoxedTxn) (txn after : Txn) →
+    slot_at k.txns step.starter.0 ≡ Some boxed → txn ≡ boxed.txn.value → new.parts ≡ undone k.parts (last_of step.count txn.log) → new.marks ≡ remarked step.marked k.marks →
+    ((o : Object) → owner_of new.owners o ≡ (if is_in txn.objects o && not (is_in step.objects o) then None else owner_of k.owners o)) → length new.owners ≡ 352 →
+    after ≡ step_back step held txn → new.txns ≡ with_slot k.txns step.starter.0 (Some (with_txn boxed after)) →
+    UndoesInside k step held prior other → new ≡ prior
+inside_taken laws k new prior step held boxed other txn after there is parts marks owns sized stepped txns undoes = λ j. record {
+  parts = (parts ∙ ap (λ (t : Txn). undone k.parts (last_of step.count t.log)) txn_is ∙ undoes.parts) j;
   marks = (marks ∙ undoes.marks) j;
   owners = laws.told new.owners prior.owners sized undoes.sized
-      (λ o. owns o ∙ ap (λ (t : Txn). if is_in t.objects o && not (is_in before o) then None else owner_of k.owners o) txn_is ∙ sym (undoes.owners o)) j;
-  txns = (txns ∙ (λ i. with_slot k.txns starter.0 (Some (with_txn (box_is i) ((stepped ∙ ap (step_back count before held) txn_is) i)))) ∙ undoes.txns) j;
+      (λ o. owns o ∙ ap (λ (t : Txn). if is_in t.objects o && not (is_in step.objects o) then None else owner_of k.owners o) txn_is ∙ sym (undoes.owners o)) j;
+  txns = (txns ∙ (λ i. with_slot k.txns step.starter.0 (Some (with_txn (box_is i) ((stepped ∙ ap (step_back step held) txn_is) i)))) ∙ undoes.txns) j;
 }
   where
     box_is : boxed ≡ other
@@ -131,17 +124,3 @@ aborted_taken laws k new prior boxed stood members starter txn led after named i
     same : (new.marks ≡ prior.marks) × (new.owners ≡ prior.owners)
     same = revived_same laws k new prior boxed.txn.value led members (ap (λ (t : Txn). t.starter) led_is) (ap (λ (t : Txn). t.defers) led_is) (ap (λ (t : Txn). t.objects) led_is) (ap (λ (t : Txn). t.members) led_is)
         marks long owns sized undoes.revives
-
--- what leads over a step has this inverse: what is so where that takes the step back is so of the place
-module _ (k : Content) (crossing : Crossing) (inverse : Inverse) (is : inverse_at crossing ≡ Some inverse) where
-  pub before_by : (new : Content) → ((before : Content) → Undoes k inverse before → new ≡ before) → (before : Content) → HoldsBack crossing (λ it. Undoes k it before) → new ≡ before
-  before_by new leads before undoes = leads before (back_of (λ it. Undoes k it before) crossing inverse is undoes)
-
-  pub again_by : (now : Crossing) (stack rest : List Change) →
-      HoldsForward now (λ undone. IsShaped k → EndsWhole k inverse → (before : Content) → IsShaped before → Undoes k inverse before → IsTakenBack before undone stack k rest) →
-      HoldsForward now (λ undone. IsShaped k → HoldsBack crossing (EndsWhole k) → (before : Content) → IsShaped before → HoldsBack crossing (λ it. Undoes k it before) → IsTakenBack before undone stack k rest)
-  again_by now stack rest =
-      forward_so
-      (λ undone. IsShaped k → EndsWhole k inverse → (before : Content) → IsShaped before → Undoes k inverse before → IsTakenBack before undone stack k rest)
-      (λ undone. IsShaped k → HoldsBack crossing (EndsWhole k) → (before : Content) → IsShaped before → HoldsBack crossing (λ it. Undoes k it before) → IsTakenBack before undone stack k rest)
-      now (λ undone again shaped whole before shaped_before undoes. again shaped (back_of (EndsWhole k) crossing inverse is whole) before shaped_before (back_of (λ it. Undoes k it before) crossing inverse is undoes))

@@ -27,7 +27,7 @@ AreAnswered event S = failed_sends (effect event S).sends (send_answers (effect 
 -- the signals that a commit held and could not deliver
 abbrev pub missed_of : Inverse → List Missed
 missed_of (Outside log post) = []
-missed_of (Inside starter count before marked held) = []
+missed_of (Inside step held) = []
 missed_of (Begun starter) = []
 missed_of (Committed boxed count held) = missed_in boxed.txn.value.outbox.sendings boxed.txn.value.outbox.posts
 missed_of (Aborted boxed stood) = []

@@ -1,13 +1,14 @@
 -- Facts of crossings, with their proofs.
-use Rattle.std.proofs.Common.{◌≡◌, true, false, Option, Some, None, MatchOption, refl, sym, ap, subst}
-use Rattle.tx_content.specs.Crossings.{inverse_at, moved_over, turned, undone_at, HoldsBack, HoldsForward}
-use Rattle.tx_content.specs.Redone.{moved_by, moved_of}
+use Rattle.std.proofs.Common.{◌≡◌, Option, Some, None, MatchOption, refl, sym, ap, subst, ◌∙◌}
+use Rattle.std.proofs.lemmas.Option.{same_Some}
+use Rattle.tx_content.specs.Crossings.{undone_of, inverse_at, moved_by_turn, moved_over, undone_at, HoldsBack, HoldsForward}
+use Rattle.tx_content.specs.Redone.{moved_by}
 use Rattle.tx_content.specs.declared.crossing.Crossing.{Crossing}
-use Rattle.tx_content.specs.declared.crossing.Crossing.TheVariants.{Again, By}
+use Rattle.tx_content.specs.declared.crossing.Crossing.TheVariants.{Back, Forward, Turn as Turning}
+use Rattle.tx_content.specs.declared.crossing.Turn.{Turn}
+use Rattle.tx_content.specs.declared.crossing.Turn.TheVariants as turn
 use Rattle.tx_content.specs.declared.inverse.Inverse.{Inverse}
-use Rattle.tx_content.specs.declared.inverse.Inverse.TheVariants.{Aborted, Begun, Committed, Inside, Outside}
 use Rattle.tx_content.specs.declared.undone.Undone.{Undone}
-use Rattle.tx_content.specs.declared.undone.Undone.TheVariants as taken
 
 module _ {A : Type 0} (P : A → Type 0) where
   there : (found : Option A) → MatchOption found ⊥ P → (x : A) × (found ≡ Some x) × P x
@@ -53,16 +54,12 @@ module _ (P : Undone → Type 0) (crossing : Crossing) (undone : Undone) (is : u
   pub forward_of : HoldsForward crossing P → P undone
   forward_of = there_of P (undone_at crossing) undone is
 
-moved_turned : (inverse : Inverse) (undone : Undone) → turned inverse ≡ Some undone → moved_of inverse ≡ moved_by undone
-moved_turned (Outside log None) undone is = let same : taken.Outside log None ≡ undone = cc in ap moved_by same
-moved_turned (Outside log (Some post)) undone is = absurd (let none : None ≡ Some undone = is in cc)
-moved_turned (Inside starter count objects marked false) undone is = let same : taken.Inside starter count objects marked None ≡ undone = cc in ap moved_by same
-moved_turned (Inside starter count objects marked true) undone is = absurd (let none : None ≡ Some undone = is in cc)
-moved_turned (Begun starter) undone is = absurd (let none : None ≡ Some undone = is in cc)
-moved_turned (Committed boxed count held) undone is = absurd (let none : None ≡ Some undone = is in cc)
-moved_turned (Aborted boxed stood) undone is = absurd (let none : None ≡ Some undone = is in cc)
-
 -- as many changes come off the stack as the step is made again with
+moved_turned : (it : Turn) → moved_by_turn it ≡ moved_by (undone_of it)
+moved_turned (turn.Outside log) = refl
+moved_turned (turn.Inside step) = refl
+
 pub moved_forward : (crossing : Crossing) (undone : Undone) → undone_at crossing ≡ Some undone → moved_over crossing ≡ moved_by undone
-moved_forward (By inverse) undone is = moved_turned inverse undone is
-moved_forward (Again taken_back) undone is = let same : taken_back ≡ undone = cc in ap moved_by same
+moved_forward (Turning turn) undone is = moved_turned turn ∙ ap moved_by (same_Some (undone_of turn) undone is)
+moved_forward (Back inverse) undone is = absurd (let none : None ≡ Some undone = is in cc)
+moved_forward (Forward taken_back) undone is = ap moved_by (same_Some taken_back undone is)

@@ -1,33 +1,36 @@
 -- What leads over an accepted step.
-use Rattle.std.specs.Prelude.{ℕ, Bool, false, is_some, Option, Some, None, MatchOption}
+use Rattle.std.specs.Prelude.{ℕ, false, Option, Some, None, MatchOption}
 use Rattle.tx_content.specs.Redone.{moved_by, moved_of}
 use Rattle.tx_content.specs.declared.crossing.Crossing.{Crossing}
-use Rattle.tx_content.specs.declared.crossing.Crossing.TheVariants.{Again, By}
+use Rattle.tx_content.specs.declared.crossing.Crossing.TheVariants.{Back, Forward, Turn as Turning}
+use Rattle.tx_content.specs.declared.crossing.Turn.{Turn}
+use Rattle.tx_content.specs.declared.crossing.Turn.TheVariants as turn
 use Rattle.tx_content.specs.declared.inverse.Inverse.{Inverse}
 use Rattle.tx_content.specs.declared.inverse.Inverse.TheVariants.{Inside, Outside}
 use Rattle.tx_content.specs.declared.undone.Undone.{Undone}
 use Rattle.tx_content.specs.declared.undone.Undone.TheVariants as taken
 
--- what makes the step again, if it has the form of an inverse: without a post and without a signal that was handed out
-abbrev pub turned : Inverse → Option Undone
-turned (Outside log None) = Some (taken.Outside log None)
-turned (Inside starter count objects marked false) = Some (taken.Inside starter count objects marked None)
-turned inverse = None
+-- the inverse that this is where it leads back: without a post, or without a signal that was handed out
+abbrev pub inverse_of : Turn → Inverse
+inverse_of (turn.Outside log) = Outside log None
+inverse_of (turn.Inside step) = Inside step false
 
--- it is an inverse that leads both ways
-abbrev pub turns : Crossing → Bool
-turns (By inverse) = is_some (turned inverse)
-turns (Again undone) = false
+-- what makes the step again where it leads forward
+abbrev pub undone_of : Turn → Undone
+undone_of (turn.Outside log) = taken.Outside log None
+undone_of (turn.Inside step) = taken.Inside step None
 
 -- the inverse, if it leads back
 abbrev pub inverse_at : Crossing → Option Inverse
-inverse_at (By inverse) = Some inverse
-inverse_at (Again undone) = None
+inverse_at (Turning turn) = Some (inverse_of turn)
+inverse_at (Back inverse) = Some inverse
+inverse_at (Forward undone) = None
 
 -- what makes the step again, if it leads forward
 abbrev pub undone_at : Crossing → Option Undone
-undone_at (By inverse) = turned inverse
-undone_at (Again undone) = Some undone
+undone_at (Turning turn) = Some (undone_of turn)
+undone_at (Back inverse) = None
+undone_at (Forward undone) = Some undone
 
 -- it leads back, and the inverse is so
 abbrev pub HoldsBack : Crossing → (Inverse → Type 0) → Type 0
@@ -38,6 +41,11 @@ abbrev pub HoldsForward : Crossing → (Undone → Type 0) → Type 0
 HoldsForward crossing so = MatchOption (undone_at crossing) ⊥ so
 
 -- how many changes go onto the stack, or off it, in a walk over the step
+abbrev pub moved_by_turn : Turn → ℕ
+moved_by_turn (turn.Outside log) = 0
+moved_by_turn (turn.Inside step) = step.count
+
 abbrev pub moved_over : Crossing → ℕ
-moved_over (By inverse) = moved_of inverse
-moved_over (Again undone) = moved_by undone
+moved_over (Turning turn) = moved_by_turn turn
+moved_over (Back inverse) = moved_of inverse
+moved_over (Forward undone) = moved_by undone

@@ -14,11 +14,11 @@ use Rattle.tx_content.specs.declared.inverse.Inverse.{Inverse}
 use Rattle.tx_content.specs.declared.inverse.Inverse.TheVariants.{Outside, Inside, Begun, Committed, Aborted}
 use Rattle.tx_content.specs.declared.kept_posts.KeptPost.{KeptPost}
 use Rattle.tx_content.specs.declared.marking.Marked.{Marked}
+use Rattle.tx_content.specs.declared.member_step.MemberStep.{MemberStep}
 use Rattle.tx_model.specs.State.{Object, Proc}
 use Rattle.tx_proc.specs.declared.proc.Answer.{Answer as TheAnswer}
 use Rattle.tx_reserve.specs.Objects.{is_in}
 use Rattle.tx_reserve.specs.Reservations.{owner_of}
-use Rattle.tx_reserve.specs.declared.objects.Objects.{Objects}
 use Rattle.tx_signal.specs.Parts.{PendingView}
 use Rattle.tx_txn.specs.KeptParts.{unposted}
 use Rattle.tx_txn.specs.Marks.{mark_of}
@@ -101,17 +101,17 @@ less_last false held = held
 less_last true held = record { sendings = take (length held.sendings - 1) held.sendings; posts = take (length held.posts - 1) held.posts }
 
 -- the transaction as it was before its last step
-abbrev pub step_back : ℕ → Objects → Bool → Txn → Txn
-step_back count before held txn = record txn { log = first_of count txn.log; outbox = less_last held txn.outbox; objects = before }
+abbrev pub step_back : MemberStep → Bool → Txn → Txn
+step_back step held txn = record txn { log = first_of step.count txn.log; outbox = less_last held txn.outbox; objects = step.objects }
 
 -- the content as it was before a step inside the transaction in the box
-pub record UndoesInside (k : Content) (starter : Pid) (count : ℕ) (before : Objects) (marked : Option Marked) (held : Bool) (old : Content) (boxed : BoxedTxn) : Type 0 where
-  pub there : slot_at k.txns starter.0 ≡ Some boxed
-  pub parts : undone k.parts (last_of count boxed.txn.value.log) ≡ old.parts
-  pub marks : remarked marked k.marks ≡ old.marks
-  pub owners : (o : Object) → owner_of old.owners o ≡ (if is_in boxed.txn.value.objects o && not (is_in before o) then None else owner_of k.owners o)
+pub record UndoesInside (k : Content) (step : MemberStep) (held : Bool) (old : Content) (boxed : BoxedTxn) : Type 0 where
+  pub there : slot_at k.txns step.starter.0 ≡ Some boxed
+  pub parts : undone k.parts (last_of step.count boxed.txn.value.log) ≡ old.parts
+  pub marks : remarked step.marked k.marks ≡ old.marks
+  pub owners : (o : Object) → owner_of old.owners o ≡ (if is_in boxed.txn.value.objects o && not (is_in step.objects o) then None else owner_of k.owners o)
   pub sized : length old.owners ≡ 352
-  pub txns : with_slot k.txns starter.0 (Some (with_txn boxed (step_back count before held boxed.txn.value))) ≡ old.txns
+  pub txns : with_slot k.txns step.starter.0 (Some (with_txn boxed (step_back step held boxed.txn.value))) ≡ old.txns
 
 -- the transaction in the slot has such a log
 pub record HasLog (k : Content) (starter : Pid) (count : ℕ) (boxed : BoxedTxn) : Type 0 where
@@ -180,7 +180,7 @@ pub record HasPosts (k : Content) (count : ℕ) (txn : Txn) : Type 0 where
 -- the inverse leads the content back to what it was before the step
 abbrev pub Undoes : Content → Inverse → Content → Type 0
 Undoes k (Outside log post) old = before_outside k log post ≡ old
-Undoes k (Inside starter count before marked held) old = (boxed : BoxedTxn) × UndoesInside k starter count before marked held old boxed
+Undoes k (Inside step held) old = (boxed : BoxedTxn) × UndoesInside k step held old boxed
 Undoes k (Begun starter) old = (boxed : BoxedTxn) × UndoesBegun k starter old boxed
 Undoes k (Committed boxed count held) old = (members : Members) × UndoesCommitted k boxed count held old members
 Undoes k (Aborted boxed stood) old = (members : Members) × UndoesAborted k boxed stood old members
@@ -188,7 +188,7 @@ Undoes k (Aborted boxed stood) old = (members : Members) × UndoesAborted k boxe
 -- the numbers of the inverse are in range
 abbrev pub GoesWith : Content → Inverse → Type 0
 GoesWith k (Outside log post) = AreNamed k.parts log × HasStarter k.txns post
-GoesWith k (Inside starter count before marked held) = ((boxed : BoxedTxn) × HasLog k starter count boxed) × HasMark k.marks marked
+GoesWith k (Inside step held) = ((boxed : BoxedTxn) × HasLog k step.starter step.count boxed) × HasMark k.marks step.marked
 GoesWith k (Begun starter) = ((boxed : BoxedTxn) × HasLog k starter 0 boxed) × (starter.0 ≤ length k.marks)
 GoesWith k (Committed boxed count held) = HasPosts k count boxed.txn.value
 GoesWith k (Aborted boxed stood) = HasNumbers k boxed.txn.value
@@ -205,7 +205,7 @@ log_in (Some boxed) = boxed.txn.value.log
 -- the changes that an inverse exchanges
 abbrev pub changes_of : Content → Inverse → List Change
 changes_of k (Outside log post) = log
-changes_of k (Inside starter count before marked held) = last_in count (slot_at k.txns starter.0)
+changes_of k (Inside step held) = last_in step.count (slot_at k.txns step.starter.0)
 changes_of k (Begun starter) = log_in (slot_at k.txns starter.0)
 changes_of k (Committed boxed count held) = last_of count boxed.txn.value.log ++ post_changes boxed.txn.value.outbox.posts
 changes_of k (Aborted boxed stood) = standing_at boxed.txn.value.starter stood ∷ boxed.txn.value.log

@@ -19,6 +19,7 @@ use Rattle.tx_content.specs.declared.inverse.Inverse.TheVariants.{Outside, Insid
 use Rattle.tx_content.specs.declared.kept_posts.KeptPost.{KeptPost}
 use Rattle.tx_content.specs.declared.kept_posts.TakenPost.{TakenPost}
 use Rattle.tx_content.specs.declared.marking.Marked.{Marked}
+use Rattle.tx_content.specs.declared.member_step.MemberStep.{MemberStep}
 use Rattle.tx_content.specs.declared.undone.Undone.{Undone}
 use Rattle.tx_content.specs.declared.undone.Undone.TheVariants as taken
 use Rattle.tx_model.specs.Membership.{is_of, mark_unless_of}
@@ -26,7 +27,6 @@ use Rattle.tx_model.specs.State.{Object, Proc}
 use Rattle.tx_proc.specs.declared.proc.Answer.{Answer as TheAnswer}
 use Rattle.tx_reserve.specs.Objects.{is_in}
 use Rattle.tx_reserve.specs.Reservations.{owner_of}
-use Rattle.tx_reserve.specs.declared.objects.Objects.{Objects}
 use Rattle.tx_txn.specs.KeptParts.{posted_again}
 use Rattle.tx_txn.specs.Marks.{IsCovered}
 use Rattle.tx_txn.specs.Outboxes.{Held, unmade}
@@ -71,18 +71,26 @@ IsLastOf true held last =
 abbrev pub after_outside : Content → List Change → Option TakenPost → Content
 after_outside k log post = record k { parts = applied k.parts log; txns = reposted_in post k.txns }
 
--- the transaction after its last step, which makes these changes
-abbrev pub step_again : Parts → List Change → Objects → Option Sending → Txn → Txn
-step_again parts changes objects held txn = record txn { log = txn.log ++ exchanged parts changes; outbox = with_last held txn.outbox; objects = objects }
+-- the transaction after its last step, whose changes are on top of the stack
+abbrev pub step_again : Parts → MemberStep → Option Sending → List Change → Txn → Txn
+step_again parts step held stack txn = record txn {
+  log = txn.log ++ exchanged parts (top_of step.count stack);
+  outbox = with_last held txn.outbox;
+  objects = step.objects;
+}
 
 -- the content after a step inside the transaction in the box
-pub record RedoesInside (k : Content) (starter : Pid) (count : ℕ) (objects : Objects) (marked : Option Marked) (held : Option Sending) (stack : List Change) (after : Content) (boxed : BoxedTxn) : Type 0 where
-  pub there : slot_at k.txns starter.0 ≡ Some boxed
-  pub parts : applied k.parts (top_of count stack) ≡ after.parts
-  pub marks : remarked marked k.marks ≡ after.marks
-  pub owners : (o : Object) → owner_of after.owners o ≡ (if is_in objects o then Some boxed.txn.value.starter.0 else owner_of k.owners o)
+pub record RedoesInside (k : Content) (step : MemberStep) (held : Option Sending) (stack : List Change) (after : Content) (boxed : BoxedTxn) : Type 0 where
+  pub there : slot_at k.txns step.starter.0 ≡ Some boxed
+  pub parts : applied k.parts (top_of step.count stack) ≡ after.parts
+  pub marks : remarked step.marked k.marks ≡ after.marks
+  pub owners : (o : Object) → owner_of after.owners o ≡ (if is_in step.objects o then Some boxed.txn.value.starter.0 else owner_of k.owners o)
   pub sized : length after.owners ≡ 352
-  pub txns : with_slot k.txns starter.0 (Some (with_txn boxed (step_again k.parts (top_of count stack) objects held boxed.txn.value))) ≡ after.txns
+  pub txns : with_slot k.txns step.starter.0 (Some (with_txn boxed (step_again k.parts step held stack boxed.txn.value))) ≡ after.txns
+
+-- the step with what it reserves and its mark exchanged for what is there now
+abbrev pub turned : Content → BoxedTxn → MemberStep → MemberStep
+turned k boxed step = record step { objects = boxed.txn.value.objects; marked = mark_there step.marked k.marks }
 
 -- the content after the first step of the transaction in the box
 pub record RedoesBegun (k : Content) (boxed : BoxedTxn) (mark : Option Mark) (after : Content) : Type 0 where
@@ -120,9 +128,8 @@ inverse_aborted k starter members boxed =
 -- the step leads to this content, and its inverse is this one, if it is no commit
 abbrev pub Redoes : Content → Undone → List Change → Content → Inverse → Type 0
 Redoes k (taken.Outside log post) stack after inverse = (after_outside k log post ≡ after) × (Outside (exchanged k.parts log) (post_in post) ≡ inverse)
-Redoes k (taken.Inside starter count objects marked held) stack after inverse =
-    (boxed : BoxedTxn) × RedoesInside k starter count objects marked held stack after boxed
-    × (Inside starter count boxed.txn.value.objects (mark_there marked k.marks) (is_some held) ≡ inverse)
+Redoes k (taken.Inside step held) stack after inverse =
+    (boxed : BoxedTxn) × RedoesInside k step held stack after boxed × (Inside (turned k boxed step) (is_some held) ≡ inverse)
 Redoes k (taken.Begun boxed mark) stack after inverse = RedoesBegun k boxed mark after × (Begun boxed.txn.value.starter ≡ inverse)
 Redoes k (taken.Committed starter count held) stack after inverse = (boxed : BoxedTxn) × RedoesCommitted k starter count held stack after boxed
 Redoes k (taken.Aborted starter stands members) stack after inverse =
@@ -131,7 +138,7 @@ Redoes k (taken.Aborted starter stands members) stack after inverse =
 -- how many changes of the stack are the step's own
 abbrev pub moved_by : Undone → ℕ
 moved_by (taken.Outside log post) = 0
-moved_by (taken.Inside starter count objects marked held) = count
+moved_by (taken.Inside step held) = step.count
 moved_by (taken.Begun boxed mark) = 0
 moved_by (taken.Committed starter count held) = count
 moved_by (taken.Aborted starter stands members) = 0
@@ -139,18 +146,18 @@ moved_by (taken.Aborted starter stands members) = 0
 -- how many changes go onto the stack as the step is taken back
 abbrev pub moved_of : Inverse → ℕ
 moved_of (Outside log post) = 0
-moved_of (Inside starter count before marked held) = count
+moved_of (Inside step held) = step.count
 moved_of (Begun starter) = 0
 moved_of (Committed boxed count held) = count
 moved_of (Aborted boxed stood) = 0
 
 -- there is such a transaction, whose step makes the topmost changes
-pub record HasStep (k : Content) (starter : Pid) (count : ℕ) (marked : Option Marked) (stack : List Change) : Type 0 where
+pub record HasStep (k : Content) (step : MemberStep) (stack : List Change) : Type 0 where
   pub boxed : BoxedTxn
-  pub there : slot_at k.txns starter.0 ≡ Some boxed
-  pub few : count ≤ length stack
-  pub named : AreNamed k.parts (top_of count stack)
-  pub mark : HasMark k.marks marked
+  pub there : slot_at k.txns step.starter.0 ≡ Some boxed
+  pub few : step.count ≤ length stack
+  pub named : AreNamed k.parts (top_of step.count stack)
+  pub mark : HasMark k.marks step.marked
 
 -- the number of the starter is in range
 pub record HasPlace (k : Content) (txn : Txn) : Type 0 where
@@ -182,7 +189,7 @@ pub record HasCommit (k : Content) (starter : Pid) (count : ℕ) (held : Option 
 -- the numbers of what makes the step again are in range
 abbrev pub GoesAgain : Content → Undone → List Change → Type 0
 GoesAgain k (taken.Outside log post) stack = AreNamed k.parts log × HasStarter k.txns (post_in post)
-GoesAgain k (taken.Inside starter count objects marked held) stack = HasStep k starter count marked stack
+GoesAgain k (taken.Inside step held) stack = HasStep k step stack
 GoesAgain k (taken.Begun boxed mark) stack = HasPlace k boxed.txn.value
 GoesAgain k (taken.Committed starter count held) stack = HasCommit k starter count held stack
 GoesAgain k (taken.Aborted starter stands members) stack = HasEnd k starter
@@ -203,7 +210,7 @@ pub record WasPosted (k : Content) (txn : Txn) : Type 0 where
 -- the transaction that the step ended, if any, is gone, and what it held was posted, if it was committed
 abbrev pub EndsWhole : Content → Inverse → Type 0
 EndsWhole k (Outside log post) = Unit {0}
-EndsWhole k (Inside starter count before marked held) = Unit {0}
+EndsWhole k (Inside step held) = Unit {0}
 EndsWhole k (Begun starter) = Unit {0}
 EndsWhole k (Committed boxed count held) = (members : Members) × IsGone k boxed.txn.value members × WasPosted k boxed.txn.value
 EndsWhole k (Aborted boxed stood) = (members : Members) × IsGone k boxed.txn.value members

@@ -1,36 +1,59 @@
 //! What leads over an accepted step, back or forward again.
-ghost use Rattle.std.specs.Prelude.{◌≡◌};
-ghost use Rattle.tx_content.specs.Crossings.{moved_over, turns};
+ghost use Rattle.std.specs.Prelude.{◌≡◌, Some};
+ghost use Rattle.tx_content.specs.Crossings.{inverse_at, moved_by_turn, moved_over};
 
 use crate::inverse::Inverse;
+use crate::member_step::MemberStep;
 use crate::undone::Undone;
+use tx_change::Log;
 
 /// What leads over an accepted step: back, or, once it is taken back, forward again. `take_back`
 /// and `redo` exchange the one for the other in place.
 #[derive(Drop)]
 pub enum Crossing {
-    /// By its inverse. Those of a step outside that posted nothing to what is kept of a starter,
-    /// and of a step inside that handed out no signal, lead both ways: what they have is exchanged,
-    /// and the walker knows the side. Any other leads only back.
-    By(Inverse),
-    /// Forward, by what makes any other step again.
-    Again(Undone),
+    /// Back, and then forward again: what it has is exchanged.
+    Turn(Turn),
+    /// Back.
+    Back(Inverse),
+    /// Forward, over a step that was taken back.
+    Forward(Undone),
+}
+
+/// What leads both ways over a step outside that posted nothing to what is kept of a starter, and
+/// over a step inside that handed out no signal.
+#[derive(Drop)]
+pub enum Turn {
+    Outside(Log),
+    Inside(MemberStep),
+}
+
+impl From<Inverse> for Crossing {
+    ghost from_gives = { λ inverse crossing. inverse_at crossing ≡ Some inverse };
+
+    fn from(inverse: Inverse) -> Crossing {
+        match inverse {
+            Inverse::Outside { log, post: None } => Crossing::Turn(Turn::Outside(log)),
+            Inverse::Inside { step, held: false } => Crossing::Turn(Turn::Inside(step)),
+            inverse => Crossing::Back(inverse),
+        }
+    }
 }
 
 impl Crossing {
     /// What leads over no step: for a place for a crossing.
     pub(crate) fn blank() -> Crossing {
-        Crossing::By(Inverse::blank())
+        Crossing::Back(Inverse::blank())
     }
 
-    /// Whether this is an inverse that leads both ways.
-    pub(crate) fn turns(&self) -> bool
-        ensures { result ≡ turns self.now }
+    /// The inverse of the step. None if this leads forward.
+    pub fn into_inverse(self) -> Option<Inverse>
+        ensures { result ≡ inverse_at self }
     {
         match self {
-            Crossing::By(Inverse::Outside { post, .. }) => post.is_none(),
-            Crossing::By(Inverse::Inside { held, .. }) => !*held,
-            _ => false,
+            Crossing::Turn(Turn::Outside(log)) => Some(Inverse::Outside { log, post: None }),
+            Crossing::Turn(Turn::Inside(step)) => Some(Inverse::Inside { step, held: false }),
+            Crossing::Back(inverse) => Some(inverse),
+            Crossing::Forward(_) => None,
         }
     }
 
@@ -39,8 +62,21 @@ impl Crossing {
         ensures { result ≡ moved_over self.now }
     {
         match self {
-            Crossing::By(inverse) => inverse.moved(),
-            Crossing::Again(undone) => undone.moved(),
+            Crossing::Turn(turn) => turn.moved(),
+            Crossing::Back(inverse) => inverse.moved(),
+            Crossing::Forward(undone) => undone.moved(),
+        }
+    }
+}
+
+impl Turn {
+    /// How many changes go onto the stack, or off it.
+    fn moved(&self) -> usize
+        ensures { result ≡ moved_by_turn self.now }
+    {
+        match self {
+            Turn::Outside(_) => 0,
+            Turn::Inside(step) => step.count,
         }
     }
 }

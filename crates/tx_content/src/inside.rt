@@ -16,6 +16,7 @@ use crate::content::Content;
 use crate::inverse::Inverse;
 use crate::laws::laws;
 use crate::marking::{Progress, mark_progress};
+use crate::member_step::MemberStep;
 use crate::planning::plan;
 use std::alloc::Global;
 use tx_base::{Mark, NoMemory, Pid, Refusal, Slots};
@@ -84,14 +85,13 @@ impl Content {
         };
         let marked = mark_progress(&mut self.marks, starter, pid, progress);
         let held = hands_out(&planned.sends);
-        let made = Inverse::Inside {
+        let step = MemberStep {
             starter,
             count,
-            before,
+            objects: before,
             marked,
-            held,
         };
-        self.put_inverse(inverse, made);
+        self.put_inverse(inverse, Inverse::Inside { step, held });
         Ok(planned.outcome)
     }
 }

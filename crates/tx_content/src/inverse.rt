@@ -3,12 +3,11 @@ ghost use Rattle.std.specs.Prelude.{◌≡◌};
 
 use crate::content::{BoxedTxn, Content};
 use crate::kept_posts::KeptPost;
-use crate::marking::Marked;
+use crate::member_step::MemberStep;
 use std::mem;
 use tx_base::Pid;
 use tx_change::Log;
 use tx_proc::Answer;
-use tx_reserve::Objects;
 
 /// The inverse of an accepted step, on the content as the step left it.
 #[derive(Drop)]
@@ -18,13 +17,9 @@ pub enum Inverse {
         log: Log,
         post: Option<KeptPost>,
     },
-    /// Of a step inside: how many old parts of the log are its own, what was reserved before it, the
-    /// mark that it replaced, and whether it handed out a signal.
+    /// Of a step inside: the step, and whether it handed out a signal.
     Inside {
-        starter: Pid,
-        count: usize,
-        before: Objects,
-        marked: Option<Marked>,
+        step: MemberStep,
         held: bool,
     },
     /// Of a transaction's first step: all of its log.

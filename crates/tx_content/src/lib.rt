@@ -29,8 +29,8 @@
 //! # Walks
 //!
 //! `take_back` undoes the step of a `Crossing` and leaves what makes it again (`Undone`), for
-//! `redo`. A commit posts again, since a post changes only what is pending; an abort leads back
-//! again.
+//! `redo`. Of most steps the same struct leads both ways (`Turn`): what it has is exchanged. A
+//! commit posts again, since a post changes only what is pending; an abort leads back again.
 //!
 //! # Room
 //!
@@ -50,6 +50,7 @@ mod inverse;
 mod kept_posts;
 mod laws;
 mod marking;
+mod member_step;
 mod outside;
 mod planning;
 mod redo;
@@ -59,9 +60,10 @@ mod undo;
 mod undone;
 
 pub use content::{BoxedTxn, Content};
-pub use crossing::Crossing;
+pub use crossing::{Crossing, Turn};
 pub use inverse::Inverse;
 pub use kept_posts::{KeptPost, TakenPost};
 pub use marking::{Marked, Progress};
+pub use member_step::MemberStep;
 pub use table::TxnTable;
 pub use undone::Undone;

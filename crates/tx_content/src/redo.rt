@@ -4,11 +4,11 @@ ghost use Rattle.tx_change.specs.Exchange.{applied, exchanged, AreNamed};
 ghost use Rattle.tx_change.specs.Stacks.{below_top, top_of};
 ghost use Rattle.tx_change.specs.declared.change.Change.{Change};
 ghost use Rattle.tx_content.specs.Content.{IsShaped};
-ghost use Rattle.tx_content.specs.Crossings.{moved_over, HoldsBack, HoldsForward};
+ghost use Rattle.tx_content.specs.Crossings.{inverse_at, inverse_of, undone_of, moved_by_turn, moved_over, HoldsBack, HoldsForward};
 ghost use Rattle.tx_content.specs.Inverses.{HasStarter};
-ghost use Rattle.tx_content.specs.Redone.{after_outside, moved_of, post_in, reposted_in, step_again, with_last, GoesAgain, IsTakenBack, Redoes, TakesBack};
+ghost use Rattle.tx_content.specs.Redone.{after_outside, post_in, reposted_in, step_again, with_last, GoesAgain, IsTakenBack, Redoes, TakesBack};
 ghost use Rattle.tx_content.specs.declared.content.Content.{Content};
-ghost use Rattle.tx_content.specs.declared.crossing.Crossing.TheVariants.{Again, By};
+ghost use Rattle.tx_content.specs.declared.crossing.Crossing.TheVariants.{Back, Forward};
 ghost use Rattle.tx_content.specs.declared.inverse.Inverse.{Inverse as TheInverse};
 ghost use Rattle.tx_content.specs.declared.undone.Undone.TheVariants as taken;
 ghost use Rattle.tx_model.specs.State.{Object};
@@ -18,12 +18,12 @@ ghost use Rattle.tx_txn.specs.Outboxes.{Held};
 
 use crate::aborts::{stand, stands};
 use crate::content::{BoxedTxn, Content};
-use crate::crossing::Crossing;
+use crate::crossing::{Crossing, Turn};
 use crate::held_posts::post_held;
 use crate::inverse::Inverse;
 use crate::kept_posts::{KeptPost, TakenPost, remake_post};
 use crate::laws::laws;
-use crate::marking::Marked;
+use crate::member_step::MemberStep;
 use crate::table::TxnTable;
 use crate::undo::put_mark;
 use crate::undone::Undone;
@@ -60,24 +60,78 @@ impl Content {
         ensures crossing_err { OnErr result (crossing.new ≡ crossing.old) }
         ensures stack_err { OnErr result (stack.new ≡ stack.old) }
     {
-        if let Crossing::By(inverse) = crossing {
-            return self.turn_forward(inverse, stack);
+        match crossing {
+            Crossing::Turn(turn) => self.turn_forward(turn, stack),
+            Crossing::Back(_) => Ok(()),
+            Crossing::Forward(_) => self.make_again(crossing, stack),
         }
-        let Crossing::Again(undone) = mem::replace(crossing, Crossing::blank()) else {
-            unreachable!()
+    }
+
+    /// Makes a step again, and exchanges what leads both ways over it.
+    ///
+    /// NoMemory where a growth is refused; all is then as it was.
+    fn turn_forward(&mut self, turn: &mut Turn, stack: &mut Vec<Change>) -> Result<(), NoMemory>
+        requires { GoesAgain self.old (undone_of turn.old) stack.old.items }
+        ensures made { (after : Content) (inverse : TheInverse) →
+            Redoes self.old (undone_of turn.old) stack.old.items after inverse →
+            OnOk result (self.new ≡ after) }
+        ensures inverse { (after : Content) (inverse : TheInverse) →
+            Redoes self.old (undone_of turn.old) stack.old.items after inverse →
+            OnOk result (inverse_of turn.new ≡ inverse) }
+        ensures moved { moved_by_turn turn.new ≡ moved_by_turn turn.old }
+        ensures stack { OnOk result
+            (stack.new.items ≡ below_top (moved_by_turn turn.old) stack.old.items) }
+        ensures capacity { vec_capacity stack.new ≡ vec_capacity stack.old }
+        ensures err { OnErr result (self.new ≡ self.old) }
+        ensures turn_err { OnErr result (turn.new ≡ turn.old) }
+        ensures stack_err { OnErr result (stack.new ≡ stack.old) }
+    {
+        match turn {
+            Turn::Outside(log) => {
+                self.redo_log(log);
+                Ok(())
+            }
+            Turn::Inside(step) => self.redo_member(step, None, stack),
+        }
+    }
+
+    /// Makes a step again over which this leads only forward, as `redo` does.
+    ///
+    /// NoMemory where a growth is refused; all is then as it was.
+    #[inline(never)] // inlined, what it moves would cost each turn its room
+    fn make_again(
+        &mut self,
+        crossing: &mut Crossing,
+        stack: &mut Vec<Change>,
+    ) -> Result<(), NoMemory>
+        requires forward { inverse_at crossing.old ≡ None }
+        requires goes { HoldsForward crossing.old
+            (λ undone. GoesAgain self.old undone stack.old.items) }
+        ensures made { (after : Content) (inverse : TheInverse) →
+            HoldsForward crossing.old
+            (λ undone. Redoes self.old undone stack.old.items after inverse) →
+            OnOk result (self.new ≡ after) }
+        ensures back { IsShaped self.old → (after : Content) (rest : List Change) →
+            HoldsForward crossing.old
+            (λ undone. IsTakenBack self.old undone stack.old.items after rest) →
+            OnOk result (HoldsBack crossing.new (TakesBack self.old self.new)) }
+        ensures moved { moved_over crossing.new ≡ moved_over crossing.old }
+        ensures stack { OnOk result
+            (stack.new.items ≡ below_top (moved_over crossing.old) stack.old.items) }
+        ensures capacity { vec_capacity stack.new ≡ vec_capacity stack.old }
+        ensures err { OnErr result (self.new ≡ self.old) }
+        ensures crossing_err { OnErr result (crossing.new ≡ crossing.old) }
+        ensures stack_err { OnErr result (stack.new ≡ stack.old) }
+    {
+        let Crossing::Forward(undone) = mem::replace(crossing, Crossing::blank()) else {
+            return Ok(());
         };
         match undone {
             Undone::Outside { log, post } => {
                 self.redo_outside(log, post, crossing);
                 Ok(())
             }
-            Undone::Inside {
-                starter,
-                count,
-                after,
-                marked,
-                held,
-            } => self.redo_inside(starter, count, after, marked, held, crossing, stack),
+            Undone::Inside { step, held } => self.redo_inside(step, held, crossing, stack),
             Undone::Begun { boxed, mark } => {
                 self.redo_begun(boxed, mark, crossing);
                 Ok(())
@@ -98,48 +152,6 @@ impl Content {
         }
     }
 
-    /// Makes again a step whose inverse leads both ways, and exchanges what that has.
-    ///
-    /// NoMemory where a growth is refused; all is then as it was.
-    fn turn_forward(
-        &mut self,
-        inverse: &mut Inverse,
-        stack: &mut Vec<Change>,
-    ) -> Result<(), NoMemory>
-        requires { HoldsForward (By inverse.old)
-            (λ undone. GoesAgain self.old undone stack.old.items) }
-        ensures made { (after : Content) (led : TheInverse) →
-            HoldsForward (By inverse.old)
-            (λ undone. Redoes self.old undone stack.old.items after led) →
-            OnOk result (self.new ≡ after) }
-        ensures inverse { (after : Content) (led : TheInverse) →
-            HoldsForward (By inverse.old)
-            (λ undone. Redoes self.old undone stack.old.items after led) →
-            OnOk result (inverse.new ≡ led) }
-        ensures moved { moved_of inverse.new ≡ moved_of inverse.old }
-        ensures stack { OnOk result
-            (stack.new.items ≡ below_top (moved_of inverse.old) stack.old.items) }
-        ensures capacity { vec_capacity stack.new ≡ vec_capacity stack.old }
-        ensures err { OnErr result (self.new ≡ self.old) }
-        ensures inverse_err { OnErr result (inverse.new ≡ inverse.old) }
-        ensures stack_err { OnErr result (stack.new ≡ stack.old) }
-    {
-        match inverse {
-            Inverse::Outside { log, post: None } => {
-                self.redo_log(log);
-                Ok(())
-            }
-            Inverse::Inside {
-                starter,
-                count,
-                before,
-                marked,
-                held: false,
-            } => self.redo_member(*starter, *count, before, marked, None, stack),
-            _ => unreachable!(),
-        }
-    }
-
     /// Makes again a step outside transactions that posted nothing, and leaves its inverse in its
     /// log.
     fn redo_log(&mut self, log: &mut Log)
@@ -155,65 +167,47 @@ impl Content {
         requires { GoesAgain self.old (taken.Outside log post) [] }
         ensures made { self.new ≡ after_outside self.old log post }
         ensures inverse { crossing.new
-            ≡ By (Inverse.Outside (exchanged self.old.parts log) (post_in post)) }
+            ≡ Back (Inverse.Outside (exchanged self.old.parts log) (post_in post)) }
     {
         let mut log = log;
         self.redo_log(&mut log);
         let post = remake_post_if(&mut self.txns, post);
-        *crossing = Crossing::By(Inverse::Outside { log, post });
+        *crossing = Crossing::Back(Inverse::Outside { log, post });
     }
 
     /// Makes again a step inside the starter's transaction, whose changes are on top of the stack,
     /// and puts its inverse into its place.
     ///
-    /// NoMemory where a growth is refused; all is then as it was, with what makes the step again in its
-    /// place.
+    /// NoMemory where a growth is refused; all is then as it was, with what makes the step again in
+    /// its place.
     fn redo_inside(
         &mut self,
-        starter: Pid,
-        count: usize,
-        objects: Objects,
-        marked: Option<Marked>,
+        step: MemberStep,
         held: Option<Sending>,
         crossing: &mut Crossing,
         stack: &mut Vec<Change>,
     ) -> Result<(), NoMemory>
-        requires { GoesAgain self.old (taken.Inside starter count objects marked held)
-            stack.old.items }
+        requires { GoesAgain self.old (taken.Inside step held) stack.old.items }
         ensures made { (after : Content) (inverse : TheInverse) →
-            Redoes self.old (taken.Inside starter count objects marked held) stack.old.items after
-            inverse →
+            Redoes self.old (taken.Inside step held) stack.old.items after inverse →
             OnOk result (self.new ≡ after) }
         ensures inverse { (after : Content) (inverse : TheInverse) →
-            Redoes self.old (taken.Inside starter count objects marked held) stack.old.items after
-            inverse →
-            OnOk result (crossing.new ≡ By inverse) }
-        ensures moved { OnOk result (moved_over crossing.new ≡ count) }
-        ensures stack { OnOk result (stack.new.items ≡ below_top count stack.old.items) }
+            Redoes self.old (taken.Inside step held) stack.old.items after inverse →
+            OnOk result (crossing.new ≡ Back inverse) }
+        ensures moved { moved_over crossing.new ≡ step.count }
+        ensures stack { OnOk result (stack.new.items ≡ below_top step.count stack.old.items) }
         ensures capacity { vec_capacity stack.new ≡ vec_capacity stack.old }
         ensures err { OnErr result (self.new ≡ self.old) }
-        ensures crossing_err { OnErr result
-            (crossing.new ≡ Again (taken.Inside starter count objects marked held)) }
+        ensures crossing_err { OnErr result (crossing.new ≡ Forward (taken.Inside step held)) }
         ensures stack_err { OnErr result (stack.new ≡ stack.old) }
     {
-        let mut objects = objects;
-        let mut marked = marked;
-        let made = self.redo_member(starter, count, &mut objects, &mut marked, held, stack);
-        let Ok(()) = made else {
-            *crossing = Crossing::Again(Undone::Inside {
-                starter,
-                count,
-                after: objects,
-                marked,
-                held,
-            });
+        let mut step = step;
+        let Ok(()) = self.redo_member(&mut step, held, stack) else {
+            *crossing = Crossing::Forward(Undone::Inside { step, held });
             return Err(NoMemory);
         };
-        *crossing = Crossing::By(Inverse::Inside {
-            starter,
-            count,
-            before: objects,
-            marked,
+        *crossing = Crossing::Back(Inverse::Inside {
+            step,
             held: held.is_some(),
         });
         Ok(())
@@ -225,44 +219,35 @@ impl Content {
     /// NoMemory where a growth is refused; all is then as it was.
     fn redo_member(
         &mut self,
-        starter: Pid,
-        count: usize,
-        objects: &mut Objects,
-        marked: &mut Option<Marked>,
+        step: &mut MemberStep,
         held: Option<Sending>,
         stack: &mut Vec<Change>,
     ) -> Result<(), NoMemory>
-        requires { GoesAgain self.old
-            (taken.Inside starter count objects.old marked.old held) stack.old.items }
+        requires { GoesAgain self.old (taken.Inside step.old held) stack.old.items }
         ensures made { (after : Content) (inverse : TheInverse) →
-            Redoes self.old (taken.Inside starter count objects.old marked.old held)
-            stack.old.items after inverse →
+            Redoes self.old (taken.Inside step.old held) stack.old.items after inverse →
             OnOk result (self.new ≡ after) }
         ensures inverse { (after : Content) (inverse : TheInverse) →
-            Redoes self.old (taken.Inside starter count objects.old marked.old held)
-            stack.old.items after inverse →
-            OnOk result
-            (Inverse.Inside starter count objects.new marked.new (is_some held) ≡ inverse) }
-        ensures stack { OnOk result (stack.new.items ≡ below_top count stack.old.items) }
+            Redoes self.old (taken.Inside step.old held) stack.old.items after inverse →
+            OnOk result (Inverse.Inside step.new (is_some held) ≡ inverse) }
+        ensures moved { step.new.count ≡ step.old.count }
+        ensures stack { OnOk result (stack.new.items ≡ below_top step.old.count stack.old.items) }
         ensures capacity { vec_capacity stack.new ≡ vec_capacity stack.old }
         ensures err { OnErr result (self.new ≡ self.old) }
-        ensures objects_err { OnErr result (objects.new ≡ objects.old) }
-        ensures marked_err { OnErr result (marked.new ≡ marked.old) }
+        ensures step_err { OnErr result (step.new ≡ step.old) }
         ensures stack_err { OnErr result (stack.new ≡ stack.old) }
     {
         laws();
-        let boxed = self.txns.value_mut(starter);
-        let before = remake_step(
+        let boxed = self.txns.value_mut(step.starter);
+        step.objects = remake_step(
             &mut boxed.txn,
             &mut self.parts,
             &mut self.owners,
-            count,
-            *objects,
+            step,
             held,
             stack,
         )?;
-        *objects = before;
-        *marked = put_mark(&mut self.marks, *marked);
+        step.marked = put_mark(&mut self.marks, step.marked);
         Ok(())
     }
 
@@ -272,7 +257,7 @@ impl Content {
         requires { GoesAgain self.old (taken.Begun boxed mark) [] }
         ensures made { (after : Content) (inverse : TheInverse) →
             Redoes self.old (taken.Begun boxed mark) [] after inverse → self.new ≡ after }
-        ensures inverse { crossing.new ≡ By (Inverse.Begun boxed.txn.value.starter) }
+        ensures inverse { crossing.new ≡ Back (Inverse.Begun boxed.txn.value.starter) }
     {
         laws();
         let mut boxed = boxed;
@@ -283,14 +268,14 @@ impl Content {
         self.owners.sized();
         self.marks.swap(starter, &mut mark);
         self.txns.put(starter, boxed);
-        *crossing = Crossing::By(Inverse::Begun { starter });
+        *crossing = Crossing::Back(Inverse::Begun { starter });
     }
 
     /// Makes again the commit of the starter's transaction, and puts its inverse into its place:
     /// the changes of its last step are on top of the stack, and what it held is posted.
     ///
-    /// NoMemory where a growth is refused; all is then as it was, with what makes the step again in its
-    /// place.
+    /// NoMemory where a growth is refused; all is then as it was, with what makes the step again in
+    /// its place.
     fn redo_committed(
         &mut self,
         starter: Pid,
@@ -305,12 +290,12 @@ impl Content {
             OnOk result (self.new ≡ after) }
         ensures back { IsShaped self.old →
             OnOk result (HoldsBack crossing.new (TakesBack self.old self.new)) }
-        ensures moved { OnOk result (moved_over crossing.new ≡ count) }
+        ensures moved { moved_over crossing.new ≡ count }
         ensures stack { OnOk result (stack.new.items ≡ below_top count stack.old.items) }
         ensures capacity { vec_capacity stack.new ≡ vec_capacity stack.old }
         ensures err { OnErr result (self.new ≡ self.old) }
         ensures crossing_err { OnErr result
-            (crossing.new ≡ Again (taken.Committed starter count held)) }
+            (crossing.new ≡ Forward (taken.Committed starter count held)) }
         ensures stack_err { OnErr result (stack.new ≡ stack.old) }
     {
         laws();
@@ -318,7 +303,7 @@ impl Content {
         let made = remake_last(&mut boxed.txn, &mut self.parts, count, held, stack);
         let Ok(()) = made else {
             self.txns.put(starter, boxed);
-            *crossing = Crossing::Again(Undone::Committed {
+            *crossing = Crossing::Forward(Undone::Committed {
                 starter,
                 count,
                 held,
@@ -328,7 +313,7 @@ impl Content {
         post_held(&mut self.parts, &mut self.txns, &mut boxed.txn.outbox);
         boxed.txn.end(&mut self.marks, &mut self.owners);
         self.owners.sized();
-        *crossing = Crossing::By(Inverse::Committed {
+        *crossing = Crossing::Back(Inverse::Committed {
             boxed,
             count,
             held: held.is_some(),
@@ -351,7 +336,7 @@ impl Content {
             self.new ≡ after }
         ensures inverse { (after : Content) (inverse : TheInverse) →
             Redoes self.old (taken.Aborted starter answer members) [] after inverse →
-            crossing.new ≡ By inverse }
+            crossing.new ≡ Back inverse }
         ensures moved { moved_over crossing.new ≡ 0 }
     {
         laws();
@@ -362,7 +347,7 @@ impl Content {
         boxed.txn.end(&mut self.marks, &mut self.owners);
         self.owners.sized();
         boxed.txn.members = members;
-        *crossing = Crossing::By(Inverse::Aborted { boxed, stood });
+        *crossing = Crossing::Back(Inverse::Aborted { boxed, stood });
     }
 }
 
@@ -378,7 +363,7 @@ fn remake_post_if(txns: &mut TxnTable, post: Option<TakenPost>) -> Option<KeptPo
     }
 }
 
-/// Makes again the last step of a member, whose changes are on top of the stack, and reserves these
+/// Makes again the last step of a member, whose changes are on top of the stack, and reserves its
 /// objects. Answers what was reserved before.
 ///
 /// NoMemory where a growth is refused; all is then as it was.
@@ -386,21 +371,21 @@ fn remake_step(
     txn: &mut Txn,
     parts: &mut Parts,
     owners: &mut Reservations,
-    count: usize,
-    objects: Objects,
+    step: &MemberStep,
     held: Option<Sending>,
     stack: &mut Vec<Change>,
 ) -> Result<Objects, NoMemory>
-    requires few { count ≤ length stack.old.items }
-    requires named { AreNamed parts.old (top_of count stack.old.items) }
-    ensures parts { OnOk result (parts.new ≡ applied parts.old (top_of count stack.old.items)) }
+    requires few { step.now.count ≤ length stack.old.items }
+    requires named { AreNamed parts.old (top_of step.now.count stack.old.items) }
+    ensures parts { OnOk result
+        (parts.new ≡ applied parts.old (top_of step.now.count stack.old.items)) }
     ensures owners { OnOk result
         ((o : Object) → owner_of owners.new o
-        ≡ (if is_in objects o then Some txn.old.starter.0 else owner_of owners.old o)) }
+        ≡ (if is_in step.now.objects o then Some txn.old.starter.0 else owner_of owners.old o)) }
     ensures sized { OnOk result (length owners.new ≡ 352) }
     ensures txn { OnOk result
-        (txn.new ≡ step_again parts.old (top_of count stack.old.items) objects held txn.old) }
-    ensures stack { OnOk result (stack.new.items ≡ below_top count stack.old.items) }
+        (txn.new ≡ step_again parts.old step.now held stack.old.items txn.old) }
+    ensures stack { OnOk result (stack.new.items ≡ below_top step.now.count stack.old.items) }
     ensures before { IfOk result (λ before. before ≡ txn.old.objects) }
     ensures capacity { vec_capacity stack.new ≡ vec_capacity stack.old }
     ensures parts_err { OnErr result (parts.new ≡ parts.old) }
@@ -408,8 +393,8 @@ fn remake_step(
     ensures txn_err { OnErr result (txn.new ≡ txn.old) }
     ensures stack_err { OnErr result (stack.new ≡ stack.old) }
 {
-    remake_last(txn, parts, count, held, stack)?;
-    let before = txn.take_again(owners, objects);
+    remake_last(txn, parts, step.count, held, stack)?;
+    let before = txn.take_again(owners, step.objects);
     owners.sized();
     Ok(before)
 }

@@ -1,10 +1,10 @@
 //! The undo of a step that keeps what makes the step again by exchange.
-ghost use Rattle.std.specs.Prelude.{◌≡◌, ◌≤◌, ◌+◌, ◌&&◌, List, false, not, length, IsTrue, None, if◌then◌else◌, vec_capacity};
+ghost use Rattle.std.specs.Prelude.{◌≡◌, ◌≤◌, ◌+◌, ◌&&◌, List, false, not, length, None, if◌then◌else◌, vec_capacity};
 ghost use Rattle.tx_change.specs.Exchange.{reverted, undone, AreNamed};
 ghost use Rattle.tx_change.specs.Stacks.{moved_onto};
 ghost use Rattle.tx_change.specs.declared.change.Change.{Change};
 ghost use Rattle.tx_content.specs.Content.{IsShaped};
-ghost use Rattle.tx_content.specs.Crossings.{moved_over, turns, HoldsBack, HoldsForward};
+ghost use Rattle.tx_content.specs.Crossings.{inverse_of, undone_at, undone_of, moved_by_turn, moved_over, HoldsBack, HoldsForward};
 ghost use Rattle.tx_content.specs.Inverses.{before_outside, first_of, last_of, less_last, step_back, unposted_in, GoesWith, HasStarter, Undoes};
 ghost use Rattle.tx_content.specs.Redone.{post_in, reposted_in, IsLastOf, IsTakenBack, EndsWhole};
 ghost use Rattle.tx_content.specs.declared.content.Content.{Content};
@@ -16,12 +16,12 @@ ghost use Rattle.tx_reserve.specs.Reservations.{owner_of};
 
 use crate::aborts::stands;
 use crate::content::{BoxedTxn, Content};
-use crate::crossing::Crossing;
+use crate::crossing::{Crossing, Turn};
 use crate::held_posts::take_posts;
 use crate::inverse::Inverse;
 use crate::kept_posts::{KeptPost, TakenPost, take_post};
 use crate::laws::laws;
-use crate::marking::Marked;
+use crate::member_step::MemberStep;
 use crate::table::TxnTable;
 use crate::undo::put_mark;
 use crate::undone::Undone;
@@ -29,7 +29,7 @@ use std::mem;
 use tx_base::{Pid, Sending};
 use tx_change::{Change, Log, Parts};
 use tx_proc::Answer;
-use tx_reserve::{Objects, Reservations};
+use tx_reserve::Reservations;
 use tx_txn::Txn;
 
 impl Content {
@@ -51,60 +51,63 @@ impl Content {
         ensures long { length stack.new.items ≡ length stack.old.items + moved_over crossing.old }
         ensures capacity { vec_capacity stack.new ≡ vec_capacity stack.old }
     {
-        if crossing.turns() {
-            return self.turn_back(crossing, stack);
-        }
-        let Crossing::By(inverse) = mem::replace(crossing, Crossing::blank()) else {
-            unreachable!()
-        };
-        match inverse {
-            Inverse::Outside { log, post } => self.take_back_outside(log, post, crossing),
-            Inverse::Inside {
-                starter,
-                count,
-                before,
-                marked,
-                held,
-            } => self.take_back_inside(starter, count, before, marked, held, crossing, stack),
-            Inverse::Begun { starter } => self.take_back_begun(starter, crossing),
-            Inverse::Committed { boxed, count, held } => {
-                self.take_back_committed(boxed, count, held, crossing, stack)
-            }
-            Inverse::Aborted { boxed, stood } => self.take_back_aborted(boxed, stood, crossing),
+        match crossing {
+            Crossing::Turn(turn) => self.turn_back(turn, stack),
+            Crossing::Back(_) => self.take_whole_back(crossing, stack),
+            Crossing::Forward(_) => {}
         }
     }
 
-    /// Takes back a step whose inverse leads both ways, and exchanges what that has.
-    fn turn_back(&mut self, crossing: &mut Crossing, stack: &mut Vec<Change>)
-        requires turns { IsTrue (turns crossing.old) }
+    /// Takes back a step, and exchanges what leads both ways over it.
+    fn turn_back(&mut self, turn: &mut Turn, stack: &mut Vec<Change>)
+        requires fits { GoesWith self.old (inverse_of turn.old) }
+        requires room { length stack.old.items + moved_by_turn turn.old ≤ vec_capacity stack.old }
+        ensures before { (before : Content) → Undoes self.old (inverse_of turn.old) before →
+            self.new ≡ before }
+        ensures again { IsShaped self.old → (before : Content) →
+            Undoes self.old (inverse_of turn.old) before →
+            IsTakenBack before (undone_of turn.new) stack.new.items self.old stack.old.items }
+        ensures moved { moved_by_turn turn.new ≡ moved_by_turn turn.old }
+        ensures long { length stack.new.items ≡ length stack.old.items + moved_by_turn turn.old }
+        ensures capacity { vec_capacity stack.new ≡ vec_capacity stack.old }
+    {
+        match turn {
+            Turn::Outside(log) => self.take_log_back(log),
+            Turn::Inside(step) => {
+                let _none = self.take_member_back(step, false, stack);
+            }
+        }
+    }
+
+    /// Takes back a step over which this leads only back, as `take_back` does.
+    #[inline(never)] // as `make_again`
+    fn take_whole_back(&mut self, crossing: &mut Crossing, stack: &mut Vec<Change>)
+        requires back { undone_at crossing.old ≡ None }
         requires fits { HoldsBack crossing.old (GoesWith self.old) }
         requires room { length stack.old.items + moved_over crossing.old ≤ vec_capacity stack.old }
         ensures before { (before : Content) →
             HoldsBack crossing.old (λ inverse. Undoes self.old inverse before) →
             self.new ≡ before }
         ensures again { HoldsForward crossing.new (λ undone.
-            IsShaped self.old → (before : Content) →
+            IsShaped self.old → HoldsBack crossing.old (EndsWhole self.old) →
+            (before : Content) → IsShaped before →
             HoldsBack crossing.old (λ inverse. Undoes self.old inverse before) →
             IsTakenBack before undone stack.new.items self.old stack.old.items) }
         ensures moved { moved_over crossing.new ≡ moved_over crossing.old }
         ensures long { length stack.new.items ≡ length stack.old.items + moved_over crossing.old }
         ensures capacity { vec_capacity stack.new ≡ vec_capacity stack.old }
     {
-        let Crossing::By(inverse) = crossing else {
-            unreachable!()
+        let Crossing::Back(inverse) = mem::replace(crossing, Crossing::blank()) else {
+            return;
         };
         match inverse {
-            Inverse::Outside { log, post: None } => self.take_log_back(log),
-            Inverse::Inside {
-                starter,
-                count,
-                before,
-                marked,
-                held: false,
-            } => {
-                let _last = self.take_member_back(*starter, *count, before, marked, false, stack);
+            Inverse::Outside { log, post } => self.take_back_outside(log, post, crossing),
+            Inverse::Inside { step, held } => self.take_back_inside(step, held, crossing, stack),
+            Inverse::Begun { starter } => self.take_back_begun(starter, crossing),
+            Inverse::Committed { boxed, count, held } => {
+                self.take_back_committed(boxed, count, held, crossing, stack)
             }
-            _ => unreachable!(),
+            Inverse::Aborted { boxed, stood } => self.take_back_aborted(boxed, stood, crossing),
         }
     }
 
@@ -140,83 +143,68 @@ impl Content {
         let mut log = log;
         self.take_log_back(&mut log);
         let post = take_post_if(&mut self.txns, post);
-        *crossing = Crossing::Again(Undone::Outside { log, post });
+        *crossing = Crossing::Forward(Undone::Outside { log, post });
     }
 
     /// Takes back a step inside the starter's transaction, and puts into its place what makes it
     /// again, with the changes that it moves onto the stack.
     fn take_back_inside(
         &mut self,
-        starter: Pid,
-        count: usize,
-        before: Objects,
-        marked: Option<Marked>,
+        step: MemberStep,
         held: bool,
         crossing: &mut Crossing,
         stack: &mut Vec<Change>,
     )
-        requires fits { GoesWith self.old (Inside starter count before marked held) }
-        requires room { length stack.old.items + count ≤ vec_capacity stack.old }
-        ensures before { (prior : Content) →
-            Undoes self.old (Inside starter count before marked held) prior → self.new ≡ prior }
+        requires fits { GoesWith self.old (Inside step held) }
+        requires room { length stack.old.items + step.count ≤ vec_capacity stack.old }
+        ensures before { (prior : Content) → Undoes self.old (Inside step held) prior →
+            self.new ≡ prior }
         ensures again { HoldsForward crossing.new (λ undone.
-            IsShaped self.old → (prior : Content) →
-            Undoes self.old (Inside starter count before marked held) prior →
+            IsShaped self.old → (prior : Content) → Undoes self.old (Inside step held) prior →
             IsTakenBack prior undone stack.new.items self.old stack.old.items) }
-        ensures moved { moved_over crossing.new ≡ count }
-        ensures long { length stack.new.items ≡ length stack.old.items + count }
+        ensures moved { moved_over crossing.new ≡ step.count }
+        ensures long { length stack.new.items ≡ length stack.old.items + step.count }
         ensures capacity { vec_capacity stack.new ≡ vec_capacity stack.old }
     {
-        let mut objects = before;
-        let mut marked = marked;
-        let last = self.take_member_back(starter, count, &mut objects, &mut marked, held, stack);
-        *crossing = Crossing::Again(Undone::Inside {
-            starter,
-            count,
-            after: objects,
-            marked,
-            held: last,
-        });
+        let mut step = step;
+        let held = self.take_member_back(&mut step, held, stack);
+        *crossing = Crossing::Forward(Undone::Inside { step, held });
     }
 
     /// Takes back a step inside the starter's transaction, moves its changes onto the stack, and
     /// exchanges what was reserved and its mark. Answers the signal that it handed out, if it did.
     fn take_member_back(
         &mut self,
-        starter: Pid,
-        count: usize,
-        objects: &mut Objects,
-        marked: &mut Option<Marked>,
+        step: &mut MemberStep,
         held: bool,
         stack: &mut Vec<Change>,
     ) -> Option<Sending>
-        requires fits { GoesWith self.old (Inside starter count objects.old marked.old held) }
-        requires room { length stack.old.items + count ≤ vec_capacity stack.old }
-        ensures before { (prior : Content) →
-            Undoes self.old (Inside starter count objects.old marked.old held) prior →
+        requires fits { GoesWith self.old (Inside step.old held) }
+        requires room { length stack.old.items + step.old.count ≤ vec_capacity stack.old }
+        ensures before { (prior : Content) → Undoes self.old (Inside step.old held) prior →
             self.new ≡ prior }
         ensures again { IsShaped self.old → (prior : Content) →
-            Undoes self.old (Inside starter count objects.old marked.old held) prior →
-            IsTakenBack prior (taken.Inside starter count objects.new marked.new result)
-            stack.new.items self.old stack.old.items }
+            Undoes self.old (Inside step.old held) prior →
+            IsTakenBack prior (taken.Inside step.new result) stack.new.items self.old
+            stack.old.items }
         ensures last { held ≡ false → result ≡ None }
-        ensures long { length stack.new.items ≡ length stack.old.items + count }
+        ensures moved { step.new.count ≡ step.old.count }
+        ensures long { length stack.new.items ≡ length stack.old.items + step.old.count }
         ensures capacity { vec_capacity stack.new ≡ vec_capacity stack.old }
     {
         laws();
-        let boxed = self.txns.value_mut(starter);
+        let boxed = self.txns.value_mut(step.starter);
         let after = boxed.txn.objects;
         let last = move_step(
             &mut boxed.txn,
             &mut self.parts,
             &mut self.owners,
-            count,
-            *objects,
+            step,
             held,
             stack,
         );
-        *objects = after;
-        *marked = put_mark(&mut self.marks, *marked);
+        step.objects = after;
+        step.marked = put_mark(&mut self.marks, step.marked);
         last
     }
 
@@ -238,7 +226,7 @@ impl Content {
         self.owners.release(&boxed.txn.objects);
         self.owners.sized();
         let mark = self.marks.take(starter);
-        *crossing = Crossing::Again(Undone::Begun { boxed, mark });
+        *crossing = Crossing::Forward(Undone::Begun { boxed, mark });
     }
 
     /// Takes back the commit of this transaction, and puts into its place what makes it again, with
@@ -272,7 +260,7 @@ impl Content {
         boxed.txn.revive(&mut self.marks, &mut self.owners);
         self.owners.sized();
         self.txns.put(starter, boxed);
-        *crossing = Crossing::Again(Undone::Committed {
+        *crossing = Crossing::Forward(Undone::Committed {
             starter,
             count,
             held: last,
@@ -296,7 +284,7 @@ impl Content {
         let members = boxed.txn.members;
         let stands = stands(&self.parts, starter);
         self.undo_aborted(boxed, stood);
-        *crossing = Crossing::Again(Undone::Aborted {
+        *crossing = Crossing::Forward(Undone::Aborted {
             starter,
             stands,
             members,
@@ -316,34 +304,33 @@ fn take_post_if(txns: &mut TxnTable, post: Option<KeptPost>) -> Option<TakenPost
     Some(take_post(txns, post))
 }
 
-/// Takes back the last step of a member: moves this many of the log's last changes onto the stack,
-/// and gives up what was not reserved before. Answers the signal that it handed out, if it did.
+/// Takes back the last step of a member: moves its changes onto the stack, and gives up what was
+/// not reserved before. Answers the signal that it handed out, if it did.
 fn move_step(
     txn: &mut Txn,
     parts: &mut Parts,
     owners: &mut Reservations,
-    count: usize,
-    before: Objects,
+    step: &MemberStep,
     held: bool,
     stack: &mut Vec<Change>,
 ) -> Option<Sending>
-    requires few { count ≤ length txn.old.log }
+    requires few { step.now.count ≤ length txn.old.log }
     requires named { AreNamed parts.old txn.old.log }
-    requires room { length stack.old.items + count ≤ vec_capacity stack.old }
-    ensures parts { parts.new ≡ undone parts.old (last_of count txn.old.log) }
+    requires room { length stack.old.items + step.now.count ≤ vec_capacity stack.old }
+    ensures parts { parts.new ≡ undone parts.old (last_of step.now.count txn.old.log) }
     ensures owners { (o : Object) →
         owner_of owners.new o
-        ≡ (if is_in txn.old.objects o && not (is_in before o) then None
+        ≡ (if is_in txn.old.objects o && not (is_in step.now.objects o) then None
         else owner_of owners.old o) }
     ensures sized { length owners.new ≡ 352 }
-    ensures txn { txn.new ≡ step_back count before held txn.old }
+    ensures txn { txn.new ≡ step_back step.now held txn.old }
     ensures stack { stack.new.items
-        ≡ moved_onto stack.old.items parts.old (last_of count txn.old.log) }
+        ≡ moved_onto stack.old.items parts.old (last_of step.now.count txn.old.log) }
     ensures capacity { vec_capacity stack.new ≡ vec_capacity stack.old }
     ensures last { IsLastOf held txn.old.outbox result }
 {
-    let last = move_last(txn, parts, count, held, stack);
-    txn.give_up(owners, before);
+    let last = move_last(txn, parts, step.count, held, stack);
+    txn.give_up(owners, step.objects);
     owners.sized();
     last
 }

@@ -18,10 +18,11 @@ use crate::inverse::Inverse;
 use crate::kept_posts::KeptPost;
 use crate::laws::laws;
 use crate::marking::Marked;
+use crate::member_step::MemberStep;
 use tx_base::{Mark, Pid, Slots};
 use tx_change::{Log, Parts};
 use tx_proc::Answer;
-use tx_reserve::{Objects, Reservations};
+use tx_reserve::Reservations;
 use tx_txn::Txn;
 
 impl Content {
@@ -33,13 +34,7 @@ impl Content {
     {
         match inverse {
             Inverse::Outside { log, post } => self.undo_outside(log, post),
-            Inverse::Inside {
-                starter,
-                count,
-                before,
-                marked,
-                held,
-            } => self.undo_inside(starter, count, before, marked, held),
+            Inverse::Inside { step, held } => self.undo_inside(&step, held),
             Inverse::Begun { starter } => self.undo_begun(starter),
             Inverse::Committed { boxed, count, held } => self.undo_committed(boxed, count, held),
             Inverse::Aborted { boxed, stood } => self.undo_aborted(boxed, stood),
@@ -56,29 +51,21 @@ impl Content {
     }
 
     /// Takes back a step inside the starter's transaction.
-    fn undo_inside(
-        &mut self,
-        starter: Pid,
-        count: usize,
-        before: Objects,
-        marked: Option<Marked>,
-        held: bool,
-    )
-        requires { GoesWith self.old (Inside starter count before marked held) }
-        ensures { (prior : Content) →
-            Undoes self.old (Inside starter count before marked held) prior → self.new ≡ prior }
+    fn undo_inside(&mut self, step: &MemberStep, held: bool)
+        requires { GoesWith self.old (Inside step.now held) }
+        ensures { (prior : Content) → Undoes self.old (Inside step.now held) prior →
+            self.new ≡ prior }
     {
         laws();
-        let boxed = self.txns.value_mut(starter);
+        let boxed = self.txns.value_mut(step.starter);
         take_step(
             &mut boxed.txn,
             &mut self.parts,
             &mut self.owners,
-            count,
-            before,
+            step,
             held,
         );
-        let _left = put_mark(&mut self.marks, marked);
+        let _left = put_mark(&mut self.marks, step.marked);
     }
 
     /// Takes back the first step of the starter's transaction, and drops the transaction.
@@ -122,28 +109,27 @@ impl Content {
     }
 }
 
-/// Takes back the last step of a member: this many of the log's last changes, any signal that it
-/// handed out, and what it was first to reserve.
+/// Takes back the last step of a member: its changes, any signal that it handed out, and what it
+/// was first to reserve.
 fn take_step(
     txn: &mut Txn,
     parts: &mut Parts,
     owners: &mut Reservations,
-    count: usize,
-    before: Objects,
+    step: &MemberStep,
     held: bool,
 )
-    requires few { count ≤ length txn.old.log }
+    requires few { step.now.count ≤ length txn.old.log }
     requires named { AreNamed parts.old txn.old.log }
-    ensures parts { parts.new ≡ undone parts.old (last_of count txn.old.log) }
+    ensures parts { parts.new ≡ undone parts.old (last_of step.now.count txn.old.log) }
     ensures owners { (o : Object) →
         owner_of owners.new o
-        ≡ (if is_in txn.old.objects o && not (is_in before o)
+        ≡ (if is_in txn.old.objects o && not (is_in step.now.objects o)
         then None else owner_of owners.old o) }
     ensures sized { length owners.new ≡ 352 }
-    ensures txn { txn.new ≡ step_back count before held txn.old }
+    ensures txn { txn.new ≡ step_back step.now held txn.old }
 {
-    take_last(txn, parts, count, held);
-    txn.give_up(owners, before);
+    take_last(txn, parts, step.count, held);
+    txn.give_up(owners, step.objects);
     owners.sized();
 }
 

@@ -5,11 +5,10 @@ ghost use Rattle.tx_content.specs.Redone.{moved_by, moved_of};
 use crate::content::BoxedTxn;
 use crate::inverse::Inverse;
 use crate::kept_posts::TakenPost;
-use crate::marking::Marked;
+use crate::member_step::MemberStep;
 use tx_base::{Mark, Pid, Sending};
 use tx_change::Log;
 use tx_proc::Answer;
-use tx_reserve::Objects;
 use tx_txn::Members;
 
 /// What makes a step again that was taken back, on the content before the step. The changes of a
@@ -21,13 +20,9 @@ pub enum Undone {
         log: Log,
         post: Option<TakenPost>,
     },
-    /// Of a step inside: how many changes of the stack are its own, what is reserved after it, the
-    /// mark that it left, and the signal that it handed out.
+    /// Of a step inside: the step, and the signal that it handed out.
     Inside {
-        starter: Pid,
-        count: usize,
-        after: Objects,
-        marked: Option<Marked>,
+        step: MemberStep,
         held: Option<Sending>,
     },
     /// Of a transaction's first step: the transaction, whose log has the new parts, and its mark.
@@ -56,7 +51,7 @@ impl Inverse {
         ensures { result ≡ moved_of self.now }
     {
         match self {
-            Inverse::Inside { count, .. } => *count,
+            Inverse::Inside { step, .. } => step.count,
             Inverse::Committed { count, .. } => *count,
             _ => 0,
         }
@@ -69,7 +64,7 @@ impl Undone {
         ensures { result ≡ moved_by self.now }
     {
         match self {
-            Undone::Inside { count, .. } => *count,
+            Undone::Inside { step, .. } => step.count,
             Undone::Committed { count, .. } => *count,
             _ => 0,
         }

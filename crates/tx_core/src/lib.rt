@@ -28,5 +28,5 @@ mod readers;
 mod schedules;
 
 pub use free::Free;
-pub use machine::{Machine, NoTransaction};
+pub use machine::{Machine, NoTransaction, maker};
 pub use schedules::{Kept, Ran, run, run_kept, run_wide};

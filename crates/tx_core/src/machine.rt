@@ -266,7 +266,7 @@ impl Machine {
 }
 
 /// The process whose step it is, or the starter whose transaction the kernel aborts.
-pub(crate) fn maker(step: &Step) -> Pid
+pub fn maker(step: &Step) -> Pid
     ensures { result.0 ≡ process_of step.now }
 {
     match step {

@@ -74,6 +74,13 @@ impl Machine {
         }
     }
 
+    /// Whether a process has begun a transaction that is live.
+    pub fn is_live(&self, starter: Pid) -> bool
+        ensures { result ≡ is_live (view_of self.now).table starter.0 }
+    {
+        self.txn_of(starter) == Some(starter)
+    }
+
     /// Whether the live transaction of a starter has reserved the object: false for an object of a
     /// number out of range, and if the starter has begun none.
     pub fn has_reserved(&self, starter: Pid, object: Object) -> bool

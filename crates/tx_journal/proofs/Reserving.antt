@@ -41,9 +41,9 @@ module _ (told : OwnersAreExtensional) where
 
   before_one : (k : Content) (inverse : Inverse) (a b : Content) → Undoes k inverse a → Undoes k inverse b → a ≡ b
   before_one k (Outside log post) a b one other = sym one ∙ other
-  before_one k (Inside starter count before marked held) a b one other =
+  before_one k (Inside step held) a b one other =
       let same : one.0 ≡ other.0 = same_Some one.0 other.0 (sym one.1.there ∙ other.1.there) in
-      let moved : UndoesInside k starter count before marked held a other.0 = subst (UndoesInside k starter count before marked held a) same one.1 in
+      let moved : UndoesInside k step held a other.0 = subst (UndoesInside k step held a) same one.1 in
       λ j. record {
         parts = (sym moved.parts ∙ other.1.parts) j;
         marks = (sym moved.marks ∙ other.1.marks) j;
@@ -88,8 +88,8 @@ not_in k txn members o s gone owned = grind arith
 owner_before : (k : Content) (inverse : Inverse) (before : Content) (o : Object) (s : ℕ) → IsShaped k → EndsWhole k inverse → Undoes k inverse before → owner_of k.owners o ≡ Some s →
     is_owner s (owner_of before.owners o) ≡ not (comes_first s o inverse)
 owner_before k (Outside log post) before o s shaped whole undoes owned = ap (λ (c : Content). is_owner s (owner_of c.owners o)) (sym undoes) ∙ ap (is_owner s) owned ∙ own s
-owner_before k (Inside starter count had marked held) before o s shaped whole undoes owned =
-    let has = (shaped.each starter.0 undoes.0 undoes.1.there).objects o in grind (arith, has, undoes.1.owners o, owner_or_none, same_either)
+owner_before k (Inside step held) before o s shaped whole undoes owned =
+    let has = (shaped.each step.starter.0 undoes.0 undoes.1.there).objects o in grind (arith, has, undoes.1.owners o, owner_or_none, same_either)
 owner_before k (Begun starter) before o s shaped whole undoes owned =
     let has = (shaped.each starter.0 undoes.0 undoes.1.there).objects o in grind (arith, has, undoes.1.owners o, owner_or_none, same_either)
 owner_before k (Committed boxed count held) before o s shaped whole undoes owned = grind (arith, own, not_in, undoes.1.revives.owners o)

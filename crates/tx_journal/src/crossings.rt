@@ -1,6 +1,6 @@
 //! What leads over the entries of a session, back and forward again.
-ghost use Rattle.std.specs.Prelude.{◌≡◌, ◌≢◌, ◌↔◌, ◌++◌, ◌∷◌, [], ◌+◌, ◌≤◌, ◌<◌, List, IsErr, IsTrue, OnErr, OnOk, length, slice_get};
-ghost use Rattle.std.specs.Option.{option_copied};
+ghost use Rattle.std.specs.Prelude.{◌≡◌, ◌≢◌, ◌↔◌, ◌++◌, ◌∷◌, [], ◌+◌, ◌≤◌, ◌<◌, List, None, IfNone, IfSome, IsErr, IsTrue, OnErr, OnOk, length, slice_get};
+ghost use Rattle.tx_content.specs.Crossings.{inverse_at};
 ghost use Rattle.tx_core.specs.Undo.{LeadsBack, LeadsOn};
 ghost use Rattle.tx_journal.specs.Crossings.{GoesBack, GoesForward, SameCrossed};
 ghost use Rattle.tx_content.specs.declared.inverse.Inverse.{Inverse as TheInverse};
@@ -59,17 +59,16 @@ impl Crossings {
         self.made
     }
 
-    /// What takes back the entry of a place. None if it is not made, or there is none.
-    pub fn inverse(&self, place: usize) -> Option<&Inverse>
-        ensures { option_copied result ≡ slice_get self.now.inverses place }
+    /// What leads back over the entry of a place. None if it is not made, or there is none.
+    pub fn back_over(&self, place: usize) -> Option<&Crossing>
+        ensures made { IfSome result (λ crossing.
+            inverse_at crossing.now ≡ slice_get self.now.inverses place) }
+        ensures none { IfNone result (slice_get self.now.inverses place ≡ None) }
     {
         if place >= self.made {
             return None;
         }
-        match &self.places[place] {
-            Crossing::By(inverse) => Some(inverse),
-            Crossing::Again(_) => None,
-        }
+        Some(&self.places[place])
     }
 
     /// Whether what makes the next entry again is kept.
@@ -112,7 +111,7 @@ impl Crossings {
         ensures undone { self.new.undone ≡ [] }
         ensures room { self.new.room ≡ self.old.room }
     {
-        self.places.push_reserved(Crossing::By(inverse));
+        self.places.push_reserved(Crossing::from(inverse));
         self.made += 1;
     }
 
@@ -167,10 +166,10 @@ impl Crossings {
         ensures none { self.new.undone ≡ [] }
     {
         let Some(crossing) = self.places.pop() else {
-            unreachable!()
+            return;
         };
-        let Crossing::By(inverse) = crossing else {
-            unreachable!()
+        let Some(inverse) = crossing.into_inverse() else {
+            return;
         };
         self.made -= 1;
         machine.undo(inverse);

@@ -4,7 +4,6 @@ ghost use Rattle.tx_journal.specs.Lives.{lives};
 ghost use Rattle.tx_journal.specs.Sessions.{IsAtEnd, SameBoot, made_of};
 ghost use Rattle.tx_content.specs.Content.{view_of};
 
-use crate::making::is_live;
 use crate::session::Session;
 use tx_base::Pid;
 use tx_core::Machine;
@@ -33,7 +32,7 @@ fn live_count(machine: &Machine) -> usize
 {
     let mut count = 0;
     for number in 0..machine.processes() {
-        if is_live(machine, Pid(number + 1)) {
+        if machine.is_live(Pid(number + 1)) {
             count += 1;
         }
     }

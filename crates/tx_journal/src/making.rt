@@ -112,7 +112,7 @@ fn make(
     if !machine.step_into(alloc, step, reply, &mut inverse) {
         return false;
     }
-    let is = is_live(machine, starter);
+    let is = machine.is_live(starter);
     journal.add(worker, step, reply, inverse);
     journal.live = live_after(journal.live, was, is);
     true
@@ -170,7 +170,7 @@ pub(crate) fn starter_before(machine: &Machine, step: &Step) -> (Pid, bool)
     ensures live { result.1 ≡ is_live (view_of machine.now).table result.0.0 }
 {
     match step {
-        Step::KernelAbort(starter) => (*starter, is_live(machine, *starter)),
+        Step::KernelAbort(starter) => (*starter, machine.is_live(*starter)),
         Step::Call(pid, _) => starter_by(machine, *pid),
         Step::Deliver(pid, _) => starter_by(machine, *pid),
     }
@@ -184,16 +184,9 @@ fn starter_by(machine: &Machine, pid: Pid) -> (Pid, bool)
     ensures live { result.1 ≡ is_live (view_of machine.now).table result.0.0 }
 {
     match machine.txn_of(pid) {
-        Some(starter) => (starter, is_live(machine, starter)),
+        Some(starter) => (starter, machine.is_live(starter)),
         None => (pid, false),
     }
-}
-
-/// Whether a process is the starter of a live transaction.
-pub(crate) fn is_live(machine: &Machine, starter: Pid) -> bool
-    ensures { result ≡ is_live (view_of machine.now).table starter.0 }
-{
-    machine.txn_of(starter) == Some(starter)
 }
 
 /// How many transactions are live after a step that left this one live or not.

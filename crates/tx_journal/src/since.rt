@@ -1,8 +1,9 @@
 //! Since which step a transaction has reserved an object.
 ghost use Rattle.std.specs.Prelude.{◌≡◌, ◌<◌, ◌≤◌, Some, length, option_map, reverse, slice_get, take};
+ghost use Rattle.tx_content.specs.Crossings.{inverse_at};
 ghost use Rattle.tx_journal.specs.Entries.{history_of};
 ghost use Rattle.tx_journal.specs.Sessions.{made_of, start_of};
-ghost use Rattle.tx_journal.specs.Since.{comes_first, first_touch, newest_first, numbered};
+ghost use Rattle.tx_journal.specs.Since.{comes_first, first_touch, is_first, newest_first, numbered};
 ghost use Rattle.tx_content.specs.declared.inverse.Inverse.{Inverse as TheInverse};
 ghost use Rattle.tx_reserve.specs.Objects.{object_of};
 
@@ -11,7 +12,7 @@ use crate::entry::Entry;
 use crate::laws::laws;
 use crate::session::Session;
 use tx_base::{Pid, Step};
-use tx_content::Inverse;
+use tx_content::{Crossing, Inverse, MemberStep, Turn};
 use tx_reserve::{Object, owners_are_extensional};
 
 /// A step since which a transaction has reserved an object, and the step's number, from 1.
@@ -75,22 +76,28 @@ fn comes_first_at(crossings: &Crossings, place: usize, starter: Pid, object: Obj
         slice_get crossings.now.inverses place ≡ Some inverse →
         result ≡ comes_first starter.0 (object_of object) inverse }
 {
-    let inverse = crossings.inverse(place);
-    inverse.is_some_and(|inverse| comes_first(inverse, starter, object))
+    let crossing = crossings.back_over(place);
+    crossing.is_some_and(|crossing| comes_first(crossing, starter, object))
 }
 
-/// Whether it takes back a step of the starter's transaction before which that had not reserved the
-/// object.
-fn comes_first(inverse: &Inverse, starter: Pid, object: Object) -> bool
-    ensures { result ≡ comes_first starter.0 (object_of object) inverse.now }
+/// Whether it leads back over a step of the starter's transaction before which that had not
+/// reserved the object.
+fn comes_first(crossing: &Crossing, starter: Pid, object: Object) -> bool
+    ensures { (inverse : TheInverse) → inverse_at crossing.now ≡ Some inverse →
+        result ≡ comes_first starter.0 (object_of object) inverse }
 {
-    match inverse {
-        Inverse::Inside {
-            starter: own,
-            before,
-            ..
-        } => *own == starter && !before.has(object),
-        Inverse::Begun { starter: own } => *own == starter,
+    match crossing {
+        Crossing::Turn(Turn::Inside(step)) => is_first(step, starter, object),
+        Crossing::Back(Inverse::Inside { step, .. }) => is_first(step, starter, object),
+        Crossing::Back(Inverse::Begun { starter: own }) => *own == starter,
         _ => false,
     }
+}
+
+/// Whether it is a step inside the starter's transaction before which that had not reserved the
+/// object.
+fn is_first(step: &MemberStep, starter: Pid, object: Object) -> bool
+    ensures { result ≡ is_first starter.0 (object_of object) step.now }
+{
+    step.starter == starter && !step.objects.has(object)
 }

@@ -3,7 +3,6 @@ ghost use Rattle.std.specs.Prelude.{◌≡◌, IfOk, OnOk, position};
 ghost use Rattle.std.specs.List.{list_any};
 ghost use Rattle.tx_picture.specs.Columns.{column_of, columns_of, is_at, noted, noted_row, noted_rows, noted_spans, noted_tie, noted_waits, noted_writers};
 ghost use Rattle.tx_picture.specs.Drawn.{drawn_as};
-ghost use Rattle.tx_model.specs.Events.{process_of};
 
 use crate::drawing::Drawing;
 use crate::passages::Passage;
@@ -12,7 +11,8 @@ use crate::spans::Span;
 use crate::ties::{Tie, tie_of};
 use crate::waits::Wait;
 use std::alloc::{AllocError, Global};
-use tx_base::{Pid, Step};
+use tx_base::Pid;
+use tx_core::maker;
 
 /// The processes that have a column, from the left to the right: in the order in which they come, and
 /// then those that never run, and whose steps are refused or to which only something leads.
@@ -110,17 +110,6 @@ fn is_at(column: Pid, process: Pid) -> bool
     ensures { result ≡ is_at process.0 column }
 {
     column == process
-}
-
-/// The process whose step it is, or the starter whose transaction the kernel aborts.
-pub(crate) fn maker(step: &Step) -> Pid
-    ensures { result.0 ≡ process_of step.now }
-{
-    match step {
-        Step::Call(process, _) => *process,
-        Step::Deliver(process, _) => *process,
-        Step::KernelAbort(starter) => *starter,
-    }
 }
 
 /// The number of the process's column, from 0; 0 where it has none.

@@ -3,13 +3,13 @@ ghost use Rattle.std.specs.Prelude.{◌≡◌, ◌≤◌, ◌+◌, ◌++◌, OnO
 ghost use Rattle.tx_picture.specs.Held.{covers, end_at, held_text, kept_text, reaches, sent_text, signal_text};
 ghost use Rattle.std.specs.Option.{option_copied};
 
-use crate::columns::maker;
 use crate::elements::{Numbers, Shape, put_shape};
 use crate::layout::y_of;
 use crate::rows::Row;
 use crate::spans::{End, Span};
 use std::alloc::AllocError;
 use tx_base::Pid;
+use tx_core::maker;
 
 /// Where a signal leaves, and the column that it goes to.
 #[derive(Clone, Copy)]

@@ -6,7 +6,6 @@ ghost use Rattle.tx_picture.specs.Sheets.{page_as};
 ghost use Rattle.tx_picture.specs.Steps.{anew_text, child_text, label_text, left_text, mark_text, row_text, rows_text, tied_text};
 ghost use Rattle.tx_picture.specs.Svg.{words_text};
 
-use crate::columns::maker;
 use crate::elements::{Numbers, Shape, put_shape, put_titled, put_words};
 use crate::heads::put_name;
 use crate::held::{Place, put_signal};
@@ -17,6 +16,7 @@ use crate::ties::{Tie, tie_of};
 use crate::wording::{Wording, words_of};
 use std::alloc::{AllocError, Global};
 use tx_base::{Pid, Reply};
+use tx_core::maker;
 use tx_lines::put_count;
 
 /// Appends the steps.

@@ -5,10 +5,9 @@ ghost use Rattle.tx_model.specs.View.{present};
 ghost use Rattle.tx_picture.specs.Drawings.{transfer_of};
 ghost use Rattle.tx_picture.specs.Transfers.{access_of, held_in, pipe_named};
 
-use crate::columns::maker;
 use crate::passages::{Access, Transfer};
 use tx_base::{Call, Pid, PipeNo, Step};
-use tx_core::Machine;
+use tx_core::{Machine, maker};
 
 /// The step of a row, as pipes see it.
 pub(crate) fn transfer_of(machine: &Machine, step: &Step, row: u16) -> Transfer

@@ -13,7 +13,6 @@ ghost use Rattle.tx_picture.specs.Drawings.{drawing_of, drawn_from, drawn_with, 
 ghost use Rattle.tx_picture.specs.Drawn.{drawn_as};
 ghost use Rattle.tx_picture.specs.Spans.{ended_by, followed_upto};
 
-use crate::columns::maker;
 use crate::drawing::Drawing;
 use crate::passages::{note_passages, note_written};
 use crate::rows::Row;
@@ -24,7 +23,7 @@ use crate::waits::{awaited, note_waits};
 use std::alloc::{AllocError, Global};
 use tx_base::{Call, Pid, Reply, Step};
 use tx_content::Inverse;
-use tx_core::Machine;
+use tx_core::{Machine, maker};
 use tx_lines::{Fault, Header};
 use tx_script::{boot, make_step};
 

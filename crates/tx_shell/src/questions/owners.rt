@@ -2,7 +2,6 @@
 ghost use Rattle.std.specs.Prelude.{◌≡◌, ◌++◌, IfOk, OnOk, string_bytes};
 ghost use Rattle.tx_lines.specs.Lists.{some_after};
 ghost use Rattle.tx_content.specs.Content.{view_of};
-ghost use Rattle.tx_model.specs.Membership.{is_live};
 ghost use Rattle.tx_shell.specs.Names.{named};
 ghost use Rattle.tx_shell.specs.Owners.{member_said, number_said, or_no_transaction, owned_text, owner_line, owner_lines};
 ghost use Rattle.tx_shell.specs.Places.{view_at};
@@ -76,7 +75,7 @@ fn put_owner(
     ensures { OnOk result (string_bytes text.new
         ≡ string_bytes text.old ++ owner_line (named names.entry) (view_of machine.now) starter.0) }
 {
-    if !is_live(machine, starter) {
+    if !machine.is_live(starter) {
         return Ok(());
     }
     write!(text, "owns {}{}", starter.0, Suffix(names.of(starter.0)))?;
@@ -84,13 +83,6 @@ fn put_owner(
     put_owned(text, names, machine, starter, Kind::Descriptions)?;
     put_owned(text, names, machine, starter, Kind::Pipes)?;
     put(text, "\n")
-}
-
-/// Whether a process has begun a transaction that is live.
-pub fn is_live(machine: &Machine, starter: Pid) -> bool
-    ensures { result ≡ is_live (view_of machine.now).table starter.0 }
-{
-    machine.txn_of(starter) == Some(starter)
 }
 
 /// Appends the numbers of a kind that the transaction of a starter has reserved, in rising order,

@@ -6,7 +6,6 @@ ghost use Rattle.tx_journal.specs.Trials.{answer_there, shown_at, shown_with};
 ghost use Rattle.tx_shell.specs.Differences.{differing_without, views_differing};
 
 use crate::questions::differences::put_all_differing;
-use crate::questions::owners::is_live;
 use std::alloc::Global;
 use tx_base::{NoMemory, Pid, Reply, Step};
 use tx_journal::{Session, print_pieces};
@@ -24,7 +23,7 @@ pub fn without(
         ≡ differing_without (start_of session.old) (history_of (made_of session.old)) starter) }
     ensures same { session.new ≡ session.old }
 {
-    if !is_live(session.machine(), Pid(starter)) {
+    if !session.machine().is_live(Pid(starter)) {
         return Ok(None);
     }
     let (_reply, lines) = try_at(alloc, session, &Step::KernelAbort(Pid(starter)))?;

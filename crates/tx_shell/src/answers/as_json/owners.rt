@@ -5,7 +5,6 @@ ghost use Rattle.tx_waits.specs.Kinds.{limit_of};
 ghost use Rattle.tx_shell.specs.Members.{listed_item, owned_member, owner_item, owner_member, owners_member};
 ghost use Rattle.tx_shell.specs.Owners.{owns_one};
 
-use crate::questions::owners::is_live;
 use std::alloc::AllocError;
 use tx_base::Pid;
 use tx_core::Machine;
@@ -45,7 +44,7 @@ fn put_owner(writer: &mut LineWriter, machine: &Machine, starter: Pid) -> Result
     ensures { OnOk result
         (writer.new ≡ writer.old ++ owner_item (view_of machine.now) starter.0) }
 {
-    if !is_live(machine, starter) {
+    if !machine.is_live(starter) {
         return Ok(());
     }
     begin_object(writer)?;

@@ -38,7 +38,7 @@ returns-clause-made c = λ fits.
     let old : Content = c.args.self.now in
     let new : Content = record { parts = c.step_in-stepped.new.parts; marks = c.mark_progress-marked.new.marks; owners = c.step_in-stepped.new.owners; txns = with_slot old.txns c.args.starter.0 (Some (with_txn c.value_mut-boxed.result.now c.step_in-stepped.new.txn)) } in
     rw (c.put_inverse.ensures.content, c.put_inverse.ensures.place) (subst (λ (held : Bool). IsMade old (Within c.args.starter.0 (part_of c.args.progress)) (event_of (inside_in old c.args.starter) c.args.pid c.args.act.now) c.args.pid.0 new
-    (Inside c.args.starter c.in-Ok.stepped.count c.in-Ok.stepped.before c.mark_progress-marked.result held)) (sym c.hands_out-held.ensures)
+    (Inside (record { starter = c.args.starter; count = c.in-Ok.stepped.count; objects = c.in-Ok.stepped.before; marked = c.mark_progress-marked.result }) held)) (sym c.hands_out-held.ensures)
     (made_inside c.laws.ensures old new c.args.pid c.args.starter c.args.act.now c.args.progress c.args.footprint.now c.value_mut-boxed.result.now c.step_in-stepped.new.txn c.in-Ok.stepped
     c.mark_progress-marked.result c.requires.shaped c.requires.kept c.value_mut-boxed.ensures.value
     (subst (λ (t : Txn). StepsIn old.parts new.parts old.marks old.owners new.owners c.args.pid c.args.act.now c.args.footprint.now t c.step_in-stepped.new.txn c.in-Ok.stepped) c.deref_mut.ensures.value c.in-Ok.ensures.made)

@@ -1,49 +1,22 @@
-use Rattle.std.proofs.Common.{Some, sym, ap, subst, ◌∙◌}
+use Rattle.std.proofs.Common.{Some, ap}
 use Rattle.std.proofs.lemmas.Result.{on_ok_weaker}
-use Rattle.tx_content.proofs.CommittedMade.{back_made, back_same}
-use Rattle.tx_content.specs.CrossingFacts.{forward_by, forward_of, is_forward}
-use Rattle.tx_content.specs.Crossings.{inverse_at, undone_at, HoldsForward}
+use Rattle.tx_content.proofs.CommittedMade.{back_made}
+use Rattle.tx_content.specs.CrossingFacts.{forward_of}
+use Rattle.tx_content.specs.Crossings.{undone_at, undone_of}
 use Rattle.tx_content.specs.Redone.{IsTakenBack, Redoes}
-use Rattle.tx_content.specs.declared.crossing.Crossing.{Crossing}
-use Rattle.tx_content.specs.declared.crossing.Crossing.TheVariants.{Again, By}
+use Rattle.tx_content.specs.declared.content.Content.{Content}
+use Rattle.tx_content.specs.declared.crossing.Crossing.TheVariants.{Turn as Turning}
 use Rattle.tx_content.specs.declared.inverse.Inverse.{Inverse}
-use Rattle.tx_content.specs.declared.undone.Undone.{Undone}
-use Rattle.tx_content.specs.declared.undone.Undone.TheVariants as taken
 use Rattle.tx_content.proofs.content.Content.redo.Goals as goal
 
-pub returns-in-By-clause-made : goal.returns-in-By-clause-made
-returns-in-By-clause-made c = λ after inverse redoes.
-    c.turn_forward.ensures.made after inverse (subst (λ (it : Crossing). HoldsForward it (λ undone. Redoes c.args.self.now undone c.args.stack.now.items after inverse)) c.in-By.is redoes)
+pub returns-in-Turn-clause-made : goal.returns-in-Turn-clause-made
+returns-in-Turn-clause-made c = λ after inverse redoes.
+    c.turn_forward.ensures.made after inverse
+    (forward_of (λ it. Redoes c.args.self.now it c.args.stack.now.items after inverse) c.args.crossing.now (undone_of c.in-Turn.turn) (ap undone_at c.in-Turn.is) redoes)
 
-pub returns-in-By-clause-back : goal.returns-in-By-clause-back
-returns-in-By-clause-back c = λ shaped after rest back.
-    let found = is_forward (λ undone. IsTakenBack c.args.self.now undone c.args.stack.now.items after rest) c.args.crossing.now back in
-    let here = found.2 in
-    let redoes = subst (λ (it : Crossing). HoldsForward it (λ undone. Redoes c.args.self.now undone c.args.stack.now.items after here.inverse)) c.in-By.is
-    (forward_by (λ undone. Redoes c.args.self.now undone c.args.stack.now.items after here.inverse) c.args.crossing.now found.0 found.1 here.redoes) in
-    back_made c.turn_forward.result c.args.self.now c.turn_forward.new.self after (By c.turn_forward.new.inverse) here.inverse
-    (c.turn_forward.ensures.made after here.inverse redoes) (on_ok_weaker c.turn_forward.result (ap (λ (it : Inverse). Some it)) (c.turn_forward.ensures.inverse after here.inverse redoes)) (here.goes, here.back, here.whole)
-
-pub returns-in-Inside-clause-made : goal.returns-in-Inside-clause-made
-returns-in-Inside-clause-made c = λ after inverse redoes.
-    c.redo_inside.ensures.made after inverse (forward_of (λ it. Redoes c.args.self.now it c.args.stack.now.items after inverse) c.args.crossing.now (taken.Inside c.in-Inside.starter c.in-Inside.count c.in-Inside.after c.in-Inside.marked c.in-Inside.held) (ap undone_at (sym c.replace.ensures.value ∙ c.in-Again.is ∙ ap (λ (undone : Undone). Again undone) c.in-Inside.is)) redoes)
-
-pub returns-in-Inside-clause-back : goal.returns-in-Inside-clause-back
-returns-in-Inside-clause-back c = λ shaped after rest back.
-    let here = forward_of (λ it. IsTakenBack c.args.self.now it c.args.stack.now.items after rest) c.args.crossing.now (taken.Inside c.in-Inside.starter c.in-Inside.count c.in-Inside.after c.in-Inside.marked c.in-Inside.held) (ap undone_at (sym c.replace.ensures.value ∙ c.in-Again.is ∙ ap (λ (undone : Undone). Again undone) c.in-Inside.is)) back in
-    back_made c.redo_inside.result c.args.self.now c.redo_inside.new.self after c.redo_inside.new.crossing here.inverse
-    (c.redo_inside.ensures.made after here.inverse here.redoes) (on_ok_weaker c.redo_inside.result (ap inverse_at) (c.redo_inside.ensures.inverse after here.inverse here.redoes)) (here.goes, here.back, here.whole)
-
-pub returns-in-Committed-clause-made : goal.returns-in-Committed-clause-made
-returns-in-Committed-clause-made c = λ after inverse redoes.
-    c.redo_committed.ensures.made after inverse (forward_of (λ it. Redoes c.args.self.now it c.args.stack.now.items after inverse) c.args.crossing.now (taken.Committed c.in-Committed.starter c.in-Committed.count c.in-Committed.held) (ap undone_at (sym c.replace.ensures.value ∙ c.in-Again.is ∙ ap (λ (undone : Undone). Again undone) c.in-Committed.is)) redoes)
-
-pub returns-in-Aborted-clause-made : goal.returns-in-Aborted-clause-made
-returns-in-Aborted-clause-made c = λ after inverse redoes.
-    c.redo_aborted.ensures.made after inverse (forward_of (λ it. Redoes c.args.self.now it c.args.stack.now.items after inverse) c.args.crossing.now (taken.Aborted c.in-Aborted.starter c.in-Aborted.stands c.in-Aborted.members) (ap undone_at (sym c.replace.ensures.value ∙ c.in-Again.is ∙ ap (λ (undone : Undone). Again undone) c.in-Aborted.is)) redoes)
-
-pub returns-in-Aborted-clause-back : goal.returns-in-Aborted-clause-back
-returns-in-Aborted-clause-back c = λ shaped after rest back.
-    let here = forward_of (λ it. IsTakenBack c.args.self.now it c.args.stack.now.items after rest) c.args.crossing.now (taken.Aborted c.in-Aborted.starter c.in-Aborted.stands c.in-Aborted.members) (ap undone_at (sym c.replace.ensures.value ∙ c.in-Again.is ∙ ap (λ (undone : Undone). Again undone) c.in-Aborted.is)) back in
-    back_same c.args.self.now c.redo_aborted.new.self after c.redo_aborted.new.crossing here.inverse
-    (c.redo_aborted.ensures.made after here.inverse here.redoes) (ap inverse_at (c.redo_aborted.ensures.inverse after here.inverse here.redoes)) (here.goes, here.back, here.whole)
+pub returns-in-Turn-clause-back : goal.returns-in-Turn-clause-back
+returns-in-Turn-clause-back c = λ shaped after rest back.
+    let k : Content = c.args.self.now in
+    let here = forward_of (λ it. IsTakenBack k it c.args.stack.now.items after rest) c.args.crossing.now (undone_of c.in-Turn.turn) (ap undone_at c.in-Turn.is) back in
+    back_made c.turn_forward.result k c.turn_forward.new.self after (Turning c.turn_forward.new.turn) here.inverse
+    (c.turn_forward.ensures.made after here.inverse here.redoes) (on_ok_weaker c.turn_forward.result (ap (λ (it : Inverse). Some it)) (c.turn_forward.ensures.inverse after here.inverse here.redoes)) (here.goes, here.back, here.whole)

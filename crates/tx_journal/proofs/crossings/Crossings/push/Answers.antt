@@ -1,5 +1,4 @@
-use Rattle.std.proofs.Common.{refl, ap, ◌∙◌, arith}
-use Rattle.tx_content.specs.declared.crossing.Crossing.TheVariants.{By}
+use Rattle.std.proofs.Common.{ap, ◌∙◌, arith}
 use Rattle.tx_journal.proofs.Turned.{more_inverses, more_parted, more_undone}
 use Rattle.tx_journal.specs.Crossings.{Crossed}
 use Rattle.std.proofs.lemmas.Grind.{common_steps}
@@ -8,7 +7,7 @@ use Rattle.tx_journal.proofs.crossings.Crossings.push.Goals as goal
 pub invariant_of-self : goal.invariant_of-self
 invariant_of-self c =
     let none = ap (λ (crossed : Crossed). crossed.undone) c.self.view_is ∙ c.requires.none in
-    more_parted c.self.inside.places.items c.self.inside.made c.self.invariant c.push_reserved.new.self.items (By c.args.inverse) c.args.inverse none refl c.push_reserved.ensures.items
+    more_parted c.self.inside.places.items c.self.inside.made c.self.invariant c.push_reserved.new.self.items c.from.result c.args.inverse none c.from.ensures c.push_reserved.ensures.items
 
 pub returns-clause-inverses : goal.returns-clause-inverses
 returns-clause-inverses c = grind (arith, common_steps, more_inverses)
