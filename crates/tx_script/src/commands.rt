@@ -18,22 +18,17 @@ use tx_lines::{Command, Fault, Walk};
 
 /// What the commands answer in turn, in that form, once the steps of the schedule are made. The
 /// only fault is `NoMemory`.
-pub fn answer_walk(alloc: Global, form: Form, walk: &Walk) -> Result<String, Fault>
-    requires { FitsHeader walk.now.schedule.header }
+pub fn answer_walk(alloc: Global, form: Form, walk: Walk) -> Result<String, Fault>
+    requires { FitsHeader walk.schedule.header }
     ensures text { IfOk result (λ text. string_bytes text
-        ≡ walk_answers (written_in form) walk.now.schedule.header walk.now.schedule.steps.items
-        walk.now.commands.items) }
+        ≡ walk_answers (written_in form) walk.schedule.header walk.schedule.steps.items
+        walk.commands.items) }
     ensures fault { IfErr result (λ fault. fault ≡ NoMemory) }
 {
-    let mut session = walked(alloc, &walk.schedule)?;
+    let Walk { schedule, commands } = walk;
+    let mut session = walked(alloc, schedule)?;
     let mut text = String::new(alloc);
-    put_answers(
-        alloc,
-        form,
-        &mut text,
-        &mut session,
-        walk.commands.as_slice(),
-    )?;
+    put_answers(alloc, form, &mut text, &mut session, commands.as_slice())?;
     Ok(text)
 }
 

@@ -31,5 +31,5 @@ pub fn debug_text(alloc: Global, text: &[u8]) -> Result<String, Fault>
     ensures { AnswersText walks text.now result }
 {
     let walk = read_walk(alloc, text)?;
-    answer_walk(alloc, Form::Text, &walk)
+    answer_walk(alloc, Form::Text, walk)
 }

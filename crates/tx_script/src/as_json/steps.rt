@@ -21,40 +21,42 @@ use tx_lines::{Fault, Schedule, put};
 
 /// A line for the reply to each step of a schedule, and one for the state after the last. The only
 /// fault is `NoMemory`.
-pub fn schedule_lines(alloc: Global, schedule: &Schedule) -> Result<String, Fault>
-    requires { FitsHeader schedule.now.header }
+pub fn schedule_lines(alloc: Global, schedule: Schedule) -> Result<String, Fault>
+    requires { FitsHeader schedule.header }
     ensures text { IfOk result (λ text. string_bytes text
-        ≡ text_of (schedule_lines schedule.now.header schedule.now.steps.items)) }
+        ≡ text_of (schedule_lines schedule.header schedule.steps.items)) }
     ensures fault { IfErr result (λ fault. fault ≡ NoMemory) }
 {
-    let mut session = Session::boot_by(alloc, schedule.header)?;
-    session.reserve(schedule.steps.len())?;
+    let Schedule { header, mut steps } = schedule;
+    let mut session = Session::boot_by(alloc, header)?;
+    session.reserve(steps.len())?;
     let mut text = String::new(alloc);
-    put_replies(alloc, &mut text, &mut session, schedule.steps.as_slice())?;
+    put_replies(alloc, &mut text, &mut session, steps.as_mut_slice())?;
     put_line(alloc, &mut text, &session, &Response::State)?;
     Ok(text)
 }
 
-/// Makes the steps at the end of the journal, and appends the line of each reply.
+/// Makes the steps at the end of the journal, moves those there that are accepted, and appends the
+/// line of each reply.
 fn put_replies(
     alloc: Global,
     text: &mut String,
     session: &mut Session,
-    steps: &[Step],
+    steps: &mut [Step],
 ) -> Result<(), Fault>
     requires { IsAtEnd session.old }
     ensures text { OnOk result (string_bytes text.new ≡ string_bytes text.old
-        ++ text_of (step_lines (start_of session.old) (history_of session.old.entries) steps.now)) }
+        ++ text_of (step_lines (start_of session.old) (history_of session.old.entries) steps.old)) }
     ensures history { OnOk result (history_of session.new.entries
-        ≡ history_after (start_of session.old) (history_of session.old.entries) steps.now) }
+        ≡ history_after (start_of session.old) (history_of session.old.entries) steps.old) }
     ensures boot { SameBoot session.new session.old }
     ensures at_end { IsAtEnd session.new }
     ensures fault { IfErr result (λ fault. fault ≡ NoMemory) }
 {
     let mut reply = Reply::Ended;
     let mut line = String::new(alloc);
-    for step in steps {
-        make_step(alloc, session, step, &mut reply)?;
+    for i in 0..steps.len() {
+        make_step(alloc, session, &mut steps[i], &mut reply)?;
         put_reply(alloc, text, &mut line, session.len(), &reply)?;
     }
     Ok(())

@@ -53,7 +53,7 @@ fn walk_text(alloc: Global, text: &[u8]) -> Result<String, Fault>
     ensures { AnswersText texts text.now result }
 {
     let walk = read_walk(alloc, text)?;
-    answer_walk(alloc, Form::Json, &walk)
+    answer_walk(alloc, Form::Json, walk)
 }
 
 /// The replies to the steps of a text, and the state that they leave.
@@ -62,5 +62,5 @@ fn schedule_text(alloc: Global, text: &[u8]) -> Result<String, Fault>
     ensures { AnswersText texts text.now result }
 {
     let schedule = read_schedule(alloc, text)?;
-    schedule_lines(alloc, &schedule)
+    schedule_lines(alloc, schedule)
 }

@@ -1,6 +1,5 @@
 use Rattle.std.proofs.Common.{◌++◌, List, [], ap, ◌∙◌}
 use Rattle.tx_base.specs.declared.steps.Reply.{Reply}
-use Rattle.tx_base.specs.declared.steps.Step.{Step}
 use Rattle.tx_model.specs.Schedules.{answers_of}
 use Rattle.tx_script.proofs.Reported.{after_nothing}
 use Rattle.tx_script.specs.Report.{last_view, start_state}

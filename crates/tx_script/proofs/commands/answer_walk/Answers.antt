@@ -10,7 +10,7 @@ use Rattle.tx_script.proofs.commands.answer_walk.Goals as goal
 pub returns-clause-text : goal.returns-clause-text
 returns-clause-text c =
     let written = written_in c.args.form in
-    let schedule = c.args.walk.now.schedule in
+    let schedule = c.args.walk.schedule in
     let commands = c.as_slice.result.now in
     let session = c.in_ok-session.session in
     c.in_ok-put_answers.ensures.text

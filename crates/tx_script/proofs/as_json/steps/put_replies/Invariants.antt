@@ -5,10 +5,10 @@ use Rattle.tx_script.proofs.StepsMade.{StepsSoFar}
 use Rattle.tx_script.specs.JsonLines.{step_lines, text_of}
 use Rattle.tx_script.proofs.as_json.steps.put_replies.Given as goal
 
-abbrev pub invariant-loop-step : goal.invariant-loop-step
-invariant-loop-step l =
+abbrev pub invariant-loop-i : goal.invariant-loop-i
+invariant-loop-i l =
     let first = l.initial.session in
-    let left = drop l.step-index l.steps in
-    StepsSoFar first l.session l.steps left
-    × (string_bytes l.initial.text ++ text_of (step_lines (start_of first) (history_of first.entries) l.steps)
+    let left = drop l.i l.steps in
+    StepsSoFar first l.session l.initial.steps left
+    × (string_bytes l.initial.text ++ text_of (step_lines (start_of first) (history_of first.entries) l.initial.steps)
     ≡ string_bytes l.text ++ text_of (step_lines (start_of first) (history_of l.session.entries) left))
