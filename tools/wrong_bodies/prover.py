@@ -19,9 +19,13 @@ class OtherKit(Exception):
 
 
 class Prover:
-    """Checks crates of a checkout with other texts in place of their own."""
+    """Checks crates of a checkout with other texts in place of their own.
 
-    def __init__(self, top):
+    It begins with a crate's kept proofs, or, anew, with the libraries alone.
+    """
+
+    def __init__(self, top, anew=False):
+        self.anew = anew
         try:
             self.rt = toolchain()
             for method in ("below", "stamp"):
@@ -34,7 +38,9 @@ class Prover:
             raise OtherKit(f"this toolchain's rt is other than this tool knows: {error}") from error
 
     def is_proved(self, crate):
-        """Whether the crate is proved here as it stands, and its proofs are kept."""
+        """Whether the crate is proved here as it stands, and its proofs are kept or not wanted."""
+        if self.anew:
+            return os.path.isdir(crate.rlib)
         if not crate.has_kept() or not all(it.is_built() for it in crate.below()):
             return False
         return crate.makes_rlib() and crate.is_built() or self.check(crate, {}, [])[0] == 0
@@ -45,7 +51,8 @@ class Prover:
             for path, text in texts.items():
                 with open(f"{room}/{path}", "w", encoding="utf-8") as file:
                     file.write(text)
-            words = [*self.words, *crate.words(["--jobs", "1"]), "--incremental", "kept"]
+            words = [*self.words, *crate.words(["--jobs", "1"])]
+            words += [] if self.anew else ["--incremental", "kept"]
             words += [word for function in functions for word in ("--only", function)]
             how = {"stdin": subprocess.DEVNULL, "stdout": subprocess.PIPE, "stderr": subprocess.STDOUT}
             try:
@@ -61,7 +68,8 @@ class Prover:
             for part in self.parts:
                 if os.path.isdir(f"{crate.folder}/{part}"):
                     shutil.copytree(f"{crate.folder}/{part}", f"{room}/{part}")
-            shutil.copytree(f"{crate.folder}/{KEPT}", f"{room}/kept", copy_function=link)
+            if not self.anew:
+                shutil.copytree(f"{crate.folder}/{KEPT}", f"{room}/kept", copy_function=link)
             yield room
 
 
