@@ -11,7 +11,7 @@ WORD = re.compile(r"\w+")
 FN = re.compile(r'^( *)(?:pub(?:\([^)]*\))? )?(?:(?:const|unsafe|ghost|extern "C") )*fn (\w+)')
 OWNER = re.compile(
     r"^( *)(?:pub(?:\([^)]*\))? )?(?:trait|(?:unsafe )?impl(?:<[^{]*?>)?) "
-    r"(?:(?P<of>[\w:]+)(?:<.*?>)? for )?&?(?:'\w+ )?(?:mut )?(?P<type>[\w:]+)"
+    r"(?:(?P<of>[\w:]+)(?:<(?P<at>[A-Z]\w*)?.*?>)? for )?&?(?:'\w+ )?(?:mut )?(?P<type>[\w:]+)"
 )
 # Its own name, rattle's, its file, its first and last line, from 1, and its text.
 Function = namedtuple("Function", "own name path first last text")
@@ -39,11 +39,11 @@ def end_of(lines, first, margin):
 
 
 def owner_of(lines, first, margin):
-    """The type of the impl, with its trait, or the trait, that the function stands in."""
+    """The type of the impl (with its trait, and that trait's argument) or the trait it is in."""
     for at in range(first, -1, -1):
         found = OWNER.match(lines[at])
         if found and len(found[1]) < len(margin):
-            return "".join((found[part] or "").rpartition("::")[2] for part in ("type", "of"))
+            return "".join((found[part] or "").rpartition("::")[2] for part in ("type", "of", "at"))
     return None
 
 
