@@ -31,12 +31,16 @@ pub fn memory_call(version: Version, name: &[u8], arguments: &[u8], call: &mut C
         (SpellsCall version (name.now ++ 32 ∷ arguments.now)) }
     ensures only { ReadsNamed version 1 (name.now, arguments.now) (then_some result call.new) }
 {
-    match name {
-        b"map" => put(call, number(arguments).map(Call::Map)),
-        b"unmap" => put(call, number(arguments).map(Call::Unmap)),
-        b"protect" => memory::protect(arguments, call),
-        _ => process_call(version, name, arguments, call),
+    if name == b"map".as_slice() {
+        return put(call, number(arguments).map(Call::Map));
     }
+    if name == b"unmap".as_slice() {
+        return put(call, number(arguments).map(Call::Unmap));
+    }
+    if name == b"protect".as_slice() {
+        return memory::protect(arguments, call);
+    }
+    process_call(version, name, arguments, call)
 }
 
 /// Reads the call on processes of that name with those arguments, or one of a later group. Returns
@@ -46,12 +50,16 @@ fn process_call(version: Version, name: &[u8], arguments: &[u8], call: &mut Call
         (SpellsCall version (name.now ++ 32 ∷ arguments.now)) }
     ensures only { ReadsNamed version 2 (name.now, arguments.now) (then_some result call.new) }
 {
-    match name {
-        b"fork" => put(call, read_pid(arguments).map(Call::Fork)),
-        b"exit" => put(call, number(arguments).map(Call::Exit)),
-        b"waitpid" => put(call, processes::waitpid(arguments)),
-        _ => id_call(version, name, arguments, call),
+    if name == b"fork".as_slice() {
+        return put(call, read_pid(arguments).map(Call::Fork));
     }
+    if name == b"exit".as_slice() {
+        return put(call, number(arguments).map(Call::Exit));
+    }
+    if name == b"waitpid".as_slice() {
+        return put(call, processes::waitpid(arguments));
+    }
+    id_call(version, name, arguments, call)
 }
 
 /// Reads the call on ids of that name with those arguments, or one of a later group. Returns
@@ -179,15 +187,29 @@ pub fn put_call(text: &mut String, call: &Call) -> Result<(), AllocError>
     ensures { OnOk result (string_bytes text.new ≡ string_bytes text.old ++ call_text call.now) }
 {
     match call {
-        Call::Map(page) => put_named(text, "map", &[*page]),
-        Call::Unmap(page) => put_named(text, "unmap", &[*page]),
-        Call::Protect(page, writable) => write!(text, "protect {page} {}", access(*writable)),
         Call::Store(address, bytes) => {
             put_named(text, "store", &[*address])?;
             words::put(text, " ")?;
             put_digits(text, bytes.as_slice())
         }
         Call::Load(address) => put_named(text, "load", &[*address]),
+        Call::SysXbegin => words::put(text, "sys_xbegin"),
+        Call::SysXbeginDefer => words::put(text, "sys_xbegin defer"),
+        Call::SysXend => words::put(text, "sys_xend"),
+        Call::SysXabort => words::put(text, "sys_xabort"),
+        _ => put_process_call(text, call),
+    }
+}
+
+/// Appends a call on memory, processes or ids, or of a later group.
+fn put_process_call(text: &mut String, call: &Call) -> Result<(), AllocError>
+    requires { 1 ≤ group_of call.now }
+    ensures { OnOk result (string_bytes text.new ≡ string_bytes text.old ++ call_text call.now) }
+{
+    match call {
+        Call::Map(page) => put_named(text, "map", &[*page]),
+        Call::Unmap(page) => put_named(text, "unmap", &[*page]),
+        Call::Protect(page, writable) => write!(text, "protect {page} {}", access(*writable)),
         Call::Fork(child) => write!(text, "fork {}", child.0),
         Call::Exit(status) => put_named(text, "exit", &[*status]),
         Call::Waitpid(target, nohang) => write!(text, "waitpid {target} {}", waiting(*nohang)),
@@ -195,6 +217,16 @@ pub fn put_call(text: &mut String, call: &Call) -> Result<(), AllocError>
         Call::Seteuid(id) => put_named(text, "seteuid", &[*id]),
         Call::Setgid(id) => put_named(text, "setgid", &[*id]),
         Call::Setegid(id) => put_named(text, "setegid", &[*id]),
+        _ => put_descriptor_call(text, call),
+    }
+}
+
+/// Appends a call on descriptors, or of a later group.
+fn put_descriptor_call(text: &mut String, call: &Call) -> Result<(), AllocError>
+    requires { 4 ≤ group_of call.now }
+    ensures { OnOk result (string_bytes text.new ≡ string_bytes text.old ++ call_text call.now) }
+{
+    match call {
         Call::Pipe(pipe, read, write) => { write!(text, "pipe {} {} {}", pipe.0, read.0, write.0) }
         Call::Dup(fd) => put_named(text, "dup", &[*fd]),
         Call::Dup2(from, to) => put_named(text, "dup2", &[*from, *to]),
@@ -202,16 +234,11 @@ pub fn put_call(text: &mut String, call: &Call) -> Result<(), AllocError>
         Call::SetNonblock(fd, on) => write!(text, "set_nonblock {fd} {}", switch(*on)),
         Call::Read(fd, address, count) => put_named(text, "read", &[*fd, *address, *count]),
         Call::Write(fd, address, count) => put_named(text, "write", &[*fd, *address, *count]),
-        Call::SysXbegin => words::put(text, "sys_xbegin"),
-        Call::SysXbeginDefer => words::put(text, "sys_xbegin defer"),
-        Call::SysXend => words::put(text, "sys_xend"),
-        Call::SysXabort => words::put(text, "sys_xabort"),
         _ => put_other_call(text, call),
     }
 }
 
-/// Appends a call on signals, of a script, on the console, or without an argument, but none of
-/// transactions.
+/// Appends a call on signals, of a script, on the console, or without an argument.
 fn put_other_call(text: &mut String, call: &Call) -> Result<(), AllocError>
     requires { 6 ≤ group_of call.now }
     ensures { OnOk result (string_bytes text.new ≡ string_bytes text.old ++ call_text call.now) }

@@ -1,8 +1,4 @@
-use Rattle.std.proofs.Common.{sym}
 use Rattle.tx_lines.proofs.calls.put_call.Goals as goal
-
-pub returns-in-SetNonblock : goal.returns-in-SetNonblock
-returns-in-SetNonblock c = rw (c.in-SetNonblock.is, sym c.switch.ensures) c.write-in-SetNonblock.ensures.bytes
 
 pub returns-in-SysXbegin : goal.returns-in-SysXbegin
 returns-in-SysXbegin c = rw c.in-SysXbegin.is c.put-in-SysXbegin.ensures
