@@ -1,5 +1,5 @@
--- The numbers of the errors.
-use Rattle.std.specs.Prelude.{ℕ}
+-- The numbers of the errors, and errors as answers.
+use Rattle.std.specs.Prelude.{ℕ, zero, suc, ℤ, pos, negsuc}
 use Rattle.tx_base.specs.declared.errors.Errno.{Errno}
 use Rattle.tx_base.specs.declared.errors.Errno.TheVariants.{NotPermitted, NoSuchProcess, BadDescriptor, NoChild, TryAgain, BadAddress, InvalidArgument, TooManyDescriptors, BrokenPipe}
 
@@ -14,3 +14,12 @@ error_number BadAddress = 14
 error_number InvalidArgument = 22
 error_number TooManyDescriptors = 24
 error_number BrokenPipe = 32
+
+-- a number as its negative
+abbrev pub negative : ℕ → ℤ
+negative zero = pos 0
+negative (suc n) = negsuc n
+
+-- an error as an answer
+abbrev pub error_answer : Errno → ℤ
+error_answer errno = negative (error_number errno)

@@ -4,3 +4,4 @@ pub mod Numbers
 pub mod Signals
 pub mod Slots
 pub mod SlotFacts
+pub mod Steps

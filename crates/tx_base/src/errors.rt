@@ -1,6 +1,6 @@
 //! The error numbers of the calls, and want of memory.
 ghost use Rattle.std.specs.Prelude.{◌≡◌};
-ghost use Rattle.tx_base.specs.Errors.{error_number};
+ghost use Rattle.tx_base.specs.Errors.{error_answer, error_number};
 
 use std::alloc::{AllocError, AllocFailed};
 use thiserror::Error;
@@ -45,6 +45,13 @@ impl Errno {
             Errno::TooManyDescriptors => 24,
             Errno::BrokenPipe => 32,
         }
+    }
+
+    /// The answer of a call that has this error: its number as a negative one.
+    pub fn answer(self) -> i64
+        ensures { result ≡ error_answer self }
+    {
+        -i64::from(self.number())
     }
 }
 

@@ -235,6 +235,15 @@ impl Call {
 }
 
 impl Step {
+    ghost use Rattle.tx_base.specs.Steps.{blank_step};
+
+    /// A small step, for a place into which one is read or moved.
+    pub fn blank() -> Step
+        ensures { result ≡ blank_step }
+    {
+        Step::Call(Pid(0), Call::Getpid)
+    }
+
     /// An equal step. It takes no memory.
     pub fn copy(&self) -> Step
         ensures { result ≡ self.now }

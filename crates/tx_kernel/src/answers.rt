@@ -1,13 +1,11 @@
 //! Answers that change nothing else.
 ghost use Rattle.std.specs.Prelude.{◌≡◌, ◌++◌, ◌∷◌, [], List, pos, IfOk, IfErr, OnOk, OnErr};
-ghost use Rattle.tx_base.specs.Errors.{error_number};
 ghost use Rattle.tx_base.specs.declared.steps.Refusal.TheVariants as refusal;
 ghost use Rattle.tx_change.specs.declared.change.Change.TheVariants.{Part as SetPart};
 ghost use Rattle.tx_kernel.specs.Actors.{IsActor, effect_by};
 ghost use Rattle.tx_kernel.specs.Own.{ComesTo, IsPlainPart, PlansOwn, answer_after};
 ghost use Rattle.tx_kernel.specs.Plans.{Extends, Plans};
 ghost use Rattle.tx_model.specs.Forms.{Rule, answers, changes, fails};
-ghost use Rattle.tx_model.specs.Numbers.{error_answer};
 ghost use Rattle.tx_signal.specs.Parts.{answer_of};
 ghost use Rattle.tx_model.specs.State.{Object, State};
 ghost use Rattle.tx_proc.specs.Parts.{revised};
@@ -20,20 +18,13 @@ use tx_base::{Errno, NoMemory, Refusal};
 use tx_change::{Change, Log};
 use tx_proc::{Answer, Part};
 
-/// The answer for an error.
-pub(crate) fn failing(errno: Errno) -> i64
-    ensures { result ≡ error_answer errno }
-{
-    -(errno.number() as i64)
-}
-
 /// The answer for the result of a post.
 pub(crate) fn answer_of(posted: Result<(), Errno>) -> i64
     ensures { result ≡ answer_of posted }
 {
     match posted {
         Ok(()) => 0,
-        Err(errno) => failing(errno),
+        Err(errno) => errno.answer(),
     }
 }
 
@@ -97,7 +88,7 @@ impl Actor<'_> {
             PlansOwn self.now log.old log.new outcome (effect_by self.now page)) }
         ensures err { OnErr result (log.new ≡ log.old) }
     {
-        self.plan_answer(failing(errno), log)
+        self.plan_answer(errno.answer(), log)
     }
 
     /// Plans only this answer, as a whole step. If memory is refused, the log is as it was.
@@ -125,6 +116,6 @@ impl Actor<'_> {
         ensures refused { IfErr result (λ why. why ≡ refusal.NoMemory) }
         ensures log { OnErr result (log.new ≡ log.old) }
     {
-        self.plan_done(failing(errno), log)
+        self.plan_done(errno.answer(), log)
     }
 }

@@ -11,7 +11,7 @@ ghost use Rattle.tx_model.specs.State.{Sending as TheSending};
 ghost use Rattle.tx_signal.specs.Numbers.{number_of};
 
 use crate::actor::Actor;
-use crate::answers::{answer_of, failing};
+use crate::answers::answer_of;
 use crate::laws::laws;
 use crate::planned::{Outcome, Planned, Sends};
 use tx_base::{CLOSED_INSIDE, Errno, HELD_SENDS, NoMemory, Sending, Signo};
@@ -63,10 +63,10 @@ impl Actor<'_> {
             ≡ effect_by self.now (sent result) (state_of held self.now.parts.now) }
     {
         let Some(signo) = sendable(signo) else {
-            return Send::Answers(failing(Errno::InvalidArgument));
+            return Send::Answers(Errno::InvalidArgument.answer());
         };
         let Some(target) = self.numbered(target) else {
-            return Send::Answers(failing(Errno::NoSuchProcess));
+            return Send::Answers(Errno::NoSuchProcess.answer());
         };
         self.hand_out(Sending {
             target,
@@ -98,7 +98,7 @@ impl Actor<'_> {
         if inside.held < HELD_SENDS {
             Send::Holds(sending)
         } else {
-            Send::Answers(failing(Errno::TryAgain))
+            Send::Answers(Errno::TryAgain.answer())
         }
     }
 

@@ -18,7 +18,6 @@ ghost use Rattle.tx_model.specs.State.{Sending as TheSending};
 ghost use Rattle.tx_proc.specs.declared.proc.Part.TheVariants.{Answer as SetAnswer};
 
 use crate::actor::Actor;
-use crate::answers::failing;
 use crate::laws::laws;
 use crate::planned::{Outcome, Planned, Sends};
 use std::alloc::Global;
@@ -248,7 +247,7 @@ impl Actor<'_> {
             × (planned ≡ broken self.now)) }
         ensures err { OnErr result (log.new ≡ log.old) }
     {
-        let ret = failing(Errno::BrokenPipe);
+        let ret = Errno::BrokenPipe.answer();
         self.push_answer(ret, log)?;
         Ok(Planned {
             outcome: Outcome::Done(ret),

@@ -15,7 +15,7 @@ use crate::lines::meanings::meant_line;
 use crate::lines::openings::{Opening, read_opening};
 use crate::lines::versions::TextVersion;
 use std::alloc::Global;
-use tx_base::{Call, NoMemory, Pid, Reply, Step};
+use tx_base::{NoMemory, Reply, Step};
 use tx_journal::Session;
 use tx_lines::read_step_into;
 use tx_script::Form;
@@ -53,7 +53,7 @@ impl Shell {
                 given: Vec::new(alloc),
             },
             is_fresh: true,
-            step: Step::Call(Pid(0), Call::Getpid),
+            step: Step::blank(),
             reply: Reply::Ended,
         })
     }

@@ -134,7 +134,7 @@ fn number(posted: Result<(), Errno>) -> i64
 {
     match posted {
         Ok(()) => 0,
-        Err(errno) => -(errno.number() as i64),
+        Err(errno) => errno.answer(),
     }
 }
 

@@ -25,7 +25,7 @@ use crate::early::{early_refusal_of_call, early_refusal_of_delivery};
 use crate::refusal_laws::{contents_are_whole, laws, posts_are_sends};
 use crate::roles::{Start, StepRole, beginning, role_of_call, role_of_delivery};
 use crate::ways::{actor_of, way_of_call, way_of_delivery};
-use tx_base::{Call, Pid, Refusal, Signo};
+use tx_base::{Call, Errno, Pid, Refusal, Signo};
 use tx_content::Content;
 use tx_kernel::{Act, Sends};
 use tx_laws::endings;
@@ -37,9 +37,6 @@ pub(crate) enum Request<'a> {
     Call(&'a Call),
     Delivery(Signo),
 }
-
-/// EINVAL: the answer of a call of transactions that makes no sense.
-const MEANS_NOTHING: i64 = -22;
 
 impl<'a> Request<'a> {
     /// The act that it comes to, of a process that is a member of a live transaction, or is none: a
@@ -146,10 +143,10 @@ fn act_of_call(call: &Call, is_member: bool) -> Act<'_>
 {
     match call {
         Call::SysXend if is_member => Act::Answer(0),
-        Call::SysXend => Act::Answer(MEANS_NOTHING),
-        Call::SysXbegin => Act::Answer(MEANS_NOTHING),
-        Call::SysXbeginDefer => Act::Answer(MEANS_NOTHING),
-        Call::SysXabort => Act::Answer(MEANS_NOTHING),
+        Call::SysXend => Act::Answer(Errno::InvalidArgument.answer()),
+        Call::SysXbegin => Act::Answer(Errno::InvalidArgument.answer()),
+        Call::SysXbeginDefer => Act::Answer(Errno::InvalidArgument.answer()),
+        Call::SysXabort => Act::Answer(Errno::InvalidArgument.answer()),
         call => Act::Call(call),
     }
 }

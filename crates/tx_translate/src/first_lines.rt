@@ -9,7 +9,7 @@ ghost use Rattle.tx_translate.specs.MeantLines.{left_of, line_of};
 use crate::meant_lines::{MeantLines, OwnLine};
 use crate::room::Room;
 use std::alloc::{AllocError, Global};
-use tx_base::{Call, NoMemory, Pid, Step};
+use tx_base::{NoMemory, Step};
 use tx_lines::{Header, LINES, Schedule, TextKind, Version, first_header};
 
 /// How many bytes the line of a step has at least, with its end, as `1 map 0`.
@@ -107,7 +107,7 @@ fn add_step(
     if count >= LINES || !line.is_ended {
         return Ok(false);
     }
-    steps.push(Step::Call(Pid(0), Call::Getpid))?;
+    steps.push(Step::blank())?;
     if line.read_step_into(version, room, &mut steps[count]) {
         return Ok(true);
     }

@@ -25,7 +25,7 @@ pub fn read_step(version: Version, line: &[u8]) -> Option<Step>
     ensures only { (s : Step) → FitsStep s → IsOf version s → line.now ≡ step_text s →
         result ≡ Some s }
 {
-    let mut step = Step::Call(Pid(0), Call::Getpid);
+    let mut step = Step::blank();
     if read_step_into(version, line, &mut step) {
         Some(step)
     } else {

@@ -11,7 +11,7 @@ use crate::read::lines::{LINES, next_line};
 use crate::read::schedule::Schedule;
 use crate::read::steps::read_step_into;
 use std::alloc::Global;
-use tx_base::{Call, Pid, Step};
+use tx_base::Step;
 
 /// How many bytes the line of a step has at least, with its end, as `1 map 0`.
 const STEP_BYTES: usize = 8;
@@ -58,7 +58,7 @@ pub fn push_step(version: Version, line: &[u8], steps: &mut Vec<Step>) -> Result
         × IsNoStep version line.now)) }
 {
     let count = steps.len();
-    if steps.push(Step::Call(Pid(0), Call::Getpid)).is_err() {
+    if steps.push(Step::blank()).is_err() {
         return Err(Fault::NoMemory);
     }
     if !read_step_into(version, line, &mut steps[count]) {

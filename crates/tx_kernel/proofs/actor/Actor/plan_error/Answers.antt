@@ -10,7 +10,7 @@ pub returns-clause-ok : goal.returns-clause-ok
 returns-clause-ok c =
     let actor = c.args.self.now in
     owned c.plan_answer.result actor c.args.log.now c.plan_answer.new.log _ (effect_by actor (λ d. fails c.args.errno))
-    (λ S. ap (λ (r : ℤ). answer_effect actor.pid.0 r (me_of actor)) (sym (to_z-of_z w64 c.failing.result (record { sfits = c.failing.type_inv }) ∙ c.failing.ensures))) c.plan_answer.ensures.ok
+    (λ S. ap (λ (r : ℤ). answer_effect actor.pid.0 r (me_of actor)) (sym (to_z-of_z w64 c.answer.result (record { sfits = c.answer.type_inv }) ∙ c.answer.ensures))) c.plan_answer.ensures.ok
 
 pub returns-clause-page : goal.returns-clause-page
 returns-clause-page c page same =

@@ -8,7 +8,7 @@ use Rattle.tx_kernel.proofs.actor.Actor.plan_failure.Goals as goal
 
 pub returns-clause-ok : goal.returns-clause-ok
 returns-clause-ok c =
-    let same = to_z-of_z w64 c.failing.result (record { sfits = c.failing.type_inv }) in
+    let same = to_z-of_z w64 c.answer.result (record { sfits = c.answer.type_inv }) in
     subst (λ (ret : ℤ). IfOk c.plan_done.result (λ planned. (objects : State → List Object) →
     Plans c.args.self.now c.args.log.now c.plan_done.new.log planned (effect_by c.args.self.now (λ d. answers ret)) objects))
-    (same ∙ c.failing.ensures) c.plan_done.ensures.ok
+    (same ∙ c.answer.ensures) c.plan_done.ensures.ok
