@@ -17,6 +17,7 @@ use Rattle.tx_kernel.specs.Actors.{transaction_of, CountsHeld}
 use Rattle.tx_kernel.specs.Acts.{event_of, Makes}
 use Rattle.tx_kernel.specs.Plans.{held_after, sending_of, AreAmong}
 use Rattle.tx_kernel.specs.declared.events.Act.{Act}
+use Rattle.tx_kernel.specs.declared.planned.Planned.{Planned}
 use Rattle.tx_kernel.specs.declared.planned.Sends.{Sends}
 use Rattle.tx_kernel.specs.declared.planned.Sends.TheVariants.{Nothing, AtOnce, AtCommit}
 use Rattle.tx_laws.specs.Commuting.{named_by}
@@ -27,14 +28,13 @@ use Rattle.tx_content.proofs.KeptPosted.{slot_kept}
 use Rattle.tx_content.proofs.Others.{counts_stay, txn_stays, DefersSo, Stays}
 use Rattle.tx_content.proofs.Outsides.{same_content, targets_are}
 use Rattle.tx_content.specs.Content.{content_of, held_in, held_of, now_of, owner_at, own_held, txn_of, view_of, IsShaped, IsTxn}
-use Rattle.tx_content.specs.Insides.{handed_out, inside_in, is_handed_out, unmade_of, IsFootprint, IsFree, MakesIn, StepsIn}
+use Rattle.tx_content.specs.Insides.{handed_out, inside_in, is_handed_out, unmade_of, IsFootprint, IsFree, MakesIn}
 use Rattle.tx_content.specs.Inverses.{first_of, last_of, last_in, less_last, remarked, step_back, with_txn, HasLog, HasMark, UndoesInside}
 use Rattle.tx_content.specs.Laws.{LiveLaws}
 use Rattle.tx_content.specs.Made.{Answers, IsMade}
 use Rattle.tx_content.specs.Progresses.{part_of}
 use Rattle.tx_content.specs.declared.content.BoxedTxn.{BoxedTxn}
 use Rattle.tx_content.specs.declared.content.Content.{Content}
-use Rattle.tx_content.specs.declared.inside.Stepped.{Stepped}
 use Rattle.tx_content.specs.declared.inverse.Inverse.TheVariants.{Inside}
 use Rattle.tx_content.specs.declared.marking.Marked.{Marked}
 use Rattle.tx_content.specs.declared.marking.Progress.{Progress}
@@ -212,9 +212,21 @@ pub put_back : (old new : List (Option BoxedTxn)) (n : ℕ) (boxed : BoxedTxn) (
     new ≡ with_slot old n (Some (with_txn boxed txn)) → new ≡ old
 put_back old new n boxed txn there same now = slot_kept old new n boxed (with_txn boxed txn) there (ap (with_txn boxed) same) now
 
-module _ (laws : LiveLaws) (old new : Content) (pid starter : Pid) (act : Act) (progress : Progress) (footprint : Objects) (boxed : BoxedTxn) (after : Txn) (stepped : Stepped) (marked : Option Marked)
+-- the event was made, and the transaction has reserved the footprint
+pub record StepsIn (before after : Parts) (marks : List (Option Mark)) (owners others : List (Option Pid)) (pid : Pid) (act : Act) (footprint : Objects) (old new : Txn)
+    (planned : Planned) (count : ℕ) (reserved : Objects) : Type 0 where
+  pub middle : Txn
+  pub makes : MakesIn before after marks pid act old middle planned
+  pub counted : count ≡ length middle.log - length old.log
+  pub had : reserved ≡ middle.objects
+  pub owns : (o : Object) → owner_of others o ≡ (if is_in footprint o then Some middle.starter.0 else owner_of owners o)
+  pub sized : length others ≡ 352
+  pub objects : (o : Object) → is_in new.objects o ≡ (is_in middle.objects o || is_in footprint o)
+  pub rest : new ≡ record middle { objects = new.objects }
+
+module _ (laws : LiveLaws) (old new : Content) (pid starter : Pid) (act : Act) (progress : Progress) (footprint : Objects) (boxed : BoxedTxn) (after : Txn) (planned : Planned) (count : ℕ) (reserved : Objects) (marked : Option Marked)
     (shaped : IsShaped old) (kept_old : IsKept (content_of old)) (there : slot_at old.txns starter.0 ≡ Some boxed)
-    (steps : StepsIn old.parts new.parts old.marks old.owners new.owners pid act footprint boxed.txn.value after stepped)
+    (steps : StepsIn old.parts new.parts old.marks old.owners new.owners pid act footprint boxed.txn.value after planned count reserved)
     (marks : (n : ℕ) → slot_at new.marks n ≡ marks_after (Within starter.0 (part_of progress)) pid.0 (slot_at old.marks) n)
     (marks_long : length new.marks ≡ length old.marks) (remarks : remarked marked new.marks ≡ old.marks) (has_mark : HasMark new.marks marked)
     (txns : new.txns ≡ with_slot old.txns starter.0 (Some (with_txn boxed after)))
@@ -230,7 +242,7 @@ module _ (laws : LiveLaws) (old new : Content) (pid starter : Pid) (act : Act) (
 
   -- the step, as its inverse has it
   abbrev step : MemberStep
-  step = record { starter = starter; count = stepped.count; objects = stepped.before; marked = marked }
+  step = record { starter = starter; count = count; objects = reserved; marked = marked }
 
   abbrev S : State
   S = now_of old
@@ -247,10 +259,10 @@ module _ (laws : LiveLaws) (old new : Content) (pid starter : Pid) (act : Act) (
   was : IsTxn old s t0
   was = shaped.each s boxed there
 
-  made_in : MakesIn old.parts new.parts old.marks pid act t0 steps.middle stepped.planned
+  made_in : MakesIn old.parts new.parts old.marks pid act t0 steps.middle planned
   made_in = steps.makes
 
-  makes : Makes old.parts pid (Some made_in.inside) event t0.log steps.middle.log new.parts stepped.planned
+  makes : Makes old.parts pid (Some made_in.inside) event t0.log steps.middle.log new.parts planned
   makes = made_in.makes
 
   abbrev kept : List Change
@@ -280,7 +292,7 @@ module _ (laws : LiveLaws) (old new : Content) (pid starter : Pid) (act : Act) (
   kept_is : after.kept ≡ t0.kept
   kept_is = ap (λ (t : Txn). t.kept) steps.rest ∙ ap (λ (t : Txn). t.kept) made_in.rest
 
-  outbox_is : after.outbox ≡ record { sendings = t0.outbox.sendings ++ handed_out stepped.planned.sends; posts = t0.outbox.posts ++ unmade_of stepped.planned.sends }
+  outbox_is : after.outbox ≡ record { sendings = t0.outbox.sendings ++ handed_out planned.sends; posts = t0.outbox.posts ++ unmade_of planned.sends }
   outbox_is = ap (λ (t : Txn). t.outbox) steps.rest ∙ made_in.outbox
 
   middle_objects : steps.middle.objects ≡ t0.objects
@@ -291,16 +303,16 @@ module _ (laws : LiveLaws) (old new : Content) (pid starter : Pid) (act : Act) (
 
   now_same : now_of new ≡ made event S S
   now_same = (λ j. state_of (λ n. hold n j) new.parts)
-      ∙ sym (laws.made (held_of old) old.parts new.parts pid (Some made_in.inside) event t0.log steps.middle.log stepped.planned makes counts)
+      ∙ sym (laws.made (held_of old) old.parts new.parts pid (Some made_in.inside) event t0.log steps.middle.log planned makes counts)
     where
-      by : (n : ℕ) → held_in (if n == s then Some box1 else slot_at old.txns n) ≡ (if n == s then map sending_of (t0.outbox.sendings ++ handed_out stepped.planned.sends) else held_of old n)
+      by : (n : ℕ) → held_in (if n == s then Some box1 else slot_at old.txns n) ≡ (if n == s then map sending_of (t0.outbox.sendings ++ handed_out planned.sends) else held_of old n)
       by n = elim (cases_Bool (n == s)) [
         | inl e ↦ rw e (ap (λ (o : HeldSends). map sending_of o.sendings) outbox_is)
         | inr e ↦ rw e refl
       ]
 
-      hold : (n : ℕ) → held_of new n ≡ held_after (Some (transaction_of made_in.inside)) stepped.planned.sends (held_of old) n
-      hold n = ap held_in (slots n) ∙ by n ∙ sym (held_now (transaction_of made_in.inside) stepped.planned.sends (held_of old) s n t0.outbox.sendings inside_s holds)
+      hold : (n : ℕ) → held_of new n ≡ held_after (Some (transaction_of made_in.inside)) planned.sends (held_of old) n
+      hold n = ap held_in (slots n) ∙ by n ∙ sym (held_now (transaction_of made_in.inside) planned.sends (held_of old) s n t0.outbox.sendings inside_s holds)
 
   txn_is : txn_of box1 ≡ record (txn_of boxed) { log = newest_first kept ++ newest_first t0.log }
   txn_is = λ j. record (txn_of (with_txn boxed (record after { kept = kept_is j }))) { log = (ap newest_first log_is ∙ newest_append t0.log kept) j }
@@ -398,8 +410,8 @@ module _ (laws : LiveLaws) (old new : Content) (pid starter : Pid) (act : Act) (
     posts_after : after.outbox.posts ≡ map (λ sending. unmade) after.outbox.sendings
     posts_after =
         ap (λ (h : HeldSends). h.posts) outbox_is
-        ∙ (λ j. was.posts j ++ unmade_handed stepped.planned.sends j)
-        ∙ sym (map_append (λ sending. unmade) t0.outbox.sendings (handed_out stepped.planned.sends))
+        ∙ (λ j. was.posts j ++ unmade_handed planned.sends j)
+        ∙ sym (map_append (λ sending. unmade) t0.outbox.sendings (handed_out planned.sends))
         ∙ sym (ap (λ (h : HeldSends). map (λ sending. unmade) h.sendings) outbox_is)
 
     defers_is : after.defers ≡ t0.defers
@@ -476,7 +488,7 @@ module _ (laws : LiveLaws) (old new : Content) (pid starter : Pid) (act : Act) (
         member_owned p false e (inr fresh) = absurd (both_ways (is_in footprint (Proc p)) e fresh)
 
     among : AreAmong (objects event S ++ processes_of (effect event S).sends) kept
-    among = subst (λ (os : List Object). AreAmong (objects event S ++ os) kept) (sym (ap processes_of (makes.gives (held_of old) counts).sent ∙ targets_are stepped.planned.sends)) (makes.among (held_of old))
+    among = subst (λ (os : List Object). AreAmong (objects event S ++ os) kept) (sym (ap processes_of (makes.gives (held_of old) counts).sent ∙ targets_are planned.sends)) (makes.among (held_of old))
 
     stays : (n : ℕ) (b : BoxedTxn) → (n == s) ≡ false → slot_at old.txns n ≡ Some b → Stays old new n b.txn.value
     unfolding event_footprint named_by
@@ -557,76 +569,76 @@ module _ (laws : LiveLaws) (old new : Content) (pid starter : Pid) (act : Act) (
     }
 
     -- how much of the log is the step's own
-    front_long : length after.log - stepped.count ≡ length t0.log
-    front_long = by (length after.log) (length kept) (ap length log_is ∙ length-append t0.log kept) (steps.count ∙ ap (λ (xs : List Change). length xs - length t0.log) makes.added ∙ ap (λ (k : ℕ). k - length t0.log) (length-append t0.log kept))
+    front_long : length after.log - count ≡ length t0.log
+    front_long = by (length after.log) (length kept) (ap length log_is ∙ length-append t0.log kept) (steps.counted ∙ ap (λ (xs : List Change). length xs - length t0.log) makes.added ∙ ap (λ (k : ℕ). k - length t0.log) (length-append t0.log kept))
       where
-        by : (whole mine : ℕ) → whole ≡ length t0.log + mine → stepped.count ≡ length t0.log + mine - length t0.log → whole - stepped.count ≡ length t0.log
+        by : (whole mine : ℕ) → whole ≡ length t0.log + mine → count ≡ length t0.log + mine - length t0.log → whole - count ≡ length t0.log
         by whole mine e f = omega (arith, e, f)
 
-    count_few : stepped.count ≤ length after.log
-    count_few = by (length after.log) (length kept) (ap length log_is ∙ length-append t0.log kept) (steps.count ∙ ap (λ (xs : List Change). length xs - length t0.log) makes.added ∙ ap (λ (k : ℕ). k - length t0.log) (length-append t0.log kept))
+    count_few : count ≤ length after.log
+    count_few = by (length after.log) (length kept) (ap length log_is ∙ length-append t0.log kept) (steps.counted ∙ ap (λ (xs : List Change). length xs - length t0.log) makes.added ∙ ap (λ (k : ℕ). k - length t0.log) (length-append t0.log kept))
       where
-        by : (whole mine : ℕ) → whole ≡ length t0.log + mine → stepped.count ≡ length t0.log + mine - length t0.log → stepped.count ≤ whole
+        by : (whole mine : ℕ) → whole ≡ length t0.log + mine → count ≡ length t0.log + mine - length t0.log → count ≤ whole
         by whole mine e f = omega (arith, e, f)
 
-    last_is : last_of stepped.count after.log ≡ kept
+    last_is : last_of count after.log ≡ kept
     last_is = (λ j. drop (front_long j) (log_is j)) ∙ drop_at t0.log kept (length t0.log) refl
 
-    first_is : first_of stepped.count after.log ≡ t0.log
+    first_is : first_of count after.log ≡ t0.log
     first_is = (λ j. take (front_long j) (log_is j)) ∙ take_at t0.log kept (length t0.log) refl
 
-    back_is : step_back step (is_handed_out stepped.planned.sends) after ≡ t0
+    back_is : step_back step (is_handed_out planned.sends) after ≡ t0
     back_is = λ j. record {
       starter = starter_is j;
       defers = defers_is j;
       kept = kept_is j;
       log = first_is j;
-      outbox = held_back stepped.planned.sends t0.outbox after.outbox outbox_is j;
-      objects = (steps.reserved ∙ middle_objects) j;
+      outbox = held_back planned.sends t0.outbox after.outbox outbox_is j;
+      objects = (steps.had ∙ middle_objects) j;
       members = (ap (λ (t : Txn). t.members) steps.rest ∙ ap (λ (t : Txn). t.members) made_in.rest) j;
     }
 
-    undoes : UndoesInside new step (is_handed_out stepped.planned.sends) old box1
+    undoes : UndoesInside new step (is_handed_out planned.sends) old box1
     undoes = record {
       there = slot_s;
       parts = ap (undone new.parts) last_is ∙ makes.back;
       marks = remarks;
       owners = λ o. (owned_after s (owner_of old.owners o) (is_in t0.objects o) (is_in footprint o) (was.objects o) (free o)).1
-          ∙ sym (λ j. if objects_after o j && not (is_in ((steps.reserved ∙ middle_objects) j) o) then None else owns o j);
+          ∙ sym (λ j. if objects_after o j && not (is_in ((steps.had ∙ middle_objects) j) o) then None else owns o j);
       sized = shaped.owners;
-      txns = ap (λ (ts : List (Option BoxedTxn)). with_slot ts s (Some (with_txn box1 (step_back step (is_handed_out stepped.planned.sends) after)))) txns
-          ∙ slot_twice old.txns s (Some box1) (Some (with_txn box1 (step_back step (is_handed_out stepped.planned.sends) after)))
+      txns = ap (λ (ts : List (Option BoxedTxn)). with_slot ts s (Some (with_txn box1 (step_back step (is_handed_out planned.sends) after)))) txns
+          ∙ slot_twice old.txns s (Some box1) (Some (with_txn box1 (step_back step (is_handed_out planned.sends) after)))
           ∙ ap (λ (t : Txn). with_slot old.txns s (Some (with_txn boxed t))) back_is ∙ ap (with_slot old.txns s) (sym there) ∙ slot_same old.txns s bounds.0;
     }
 
-    has_log : HasLog new starter stepped.count box1
+    has_log : HasLog new starter count box1
     has_log = record { there = slot_s; named = named_log; few = count_few; same = starter_is ∙ (λ j. record { 0 = was.starter j }) }
 
-    inside_made : IsMade old (Within s (part_of progress)) event pid.0 new (Inside step (is_handed_out stepped.planned.sends))
+    inside_made : IsMade old (Within s (part_of progress)) event pid.0 new (Inside step (is_handed_out planned.sends))
     unfolding named_by view_of
     inside_made = record {
       records = newest_first kept;
       logs = subst (λ (n : ℕ). Logs (Within n (part_of progress)) event (newest_first kept) (content_of old)) inside_s
-          (laws.logged (content_of old) (held_of old) old.parts new.parts pid made_in.inside event t0.log steps.middle.log stepped.planned (part_of progress) pid.0 makes refl counts
+          (laws.logged (content_of old) (held_of old) old.parts new.parts pid made_in.inside event t0.log steps.middle.log planned (part_of progress) pid.0 makes refl counts
           (subst (λ (n : ℕ). FitsWithin n (part_of progress) event pid.0 (states_view (two_states_of (content_of old)))) (sym inside_s) fits));
       next = next_same;
       shaped = shaped_after;
       goes = ((box1, has_log), has_mark);
       back = (box1, undoes);
-      local = subst (AreAmong (objects event S ++ processes_of (effect event S).sends)) (sym (ap (last_in stepped.count) slot_s ∙ last_is)) among;
+      local = subst (AreAmong (objects event S ++ processes_of (effect event S).sends)) (sym (ap (last_in count) slot_s ∙ last_is)) among;
       whole = tt;
     }
 
-  inside_answers : Answers old event pid new stepped.planned.outcome
+  inside_answers : Answers old event pid new planned.outcome
   unfolding reply_of
   inside_answers = (makes.gives (held_of old) counts).reply
 
   -- the same of the event as the content tells it
   pub made_inside : FitsWithin s (part_of progress) (event_of (inside_in old starter) pid act) pid.0 (view_of old) →
-      IsMade old (Within s (part_of progress)) (event_of (inside_in old starter) pid act) pid.0 new (Inside step (is_handed_out stepped.planned.sends))
+      IsMade old (Within s (part_of progress)) (event_of (inside_in old starter) pid act) pid.0 new (Inside step (is_handed_out planned.sends))
   made_inside fits =
-      subst (λ (ev : Event). IsMade old (Within s (part_of progress)) ev pid.0 new (Inside step (is_handed_out stepped.planned.sends))) (sym event_is)
+      subst (λ (ev : Event). IsMade old (Within s (part_of progress)) ev pid.0 new (Inside step (is_handed_out planned.sends))) (sym event_is)
       (inside_made (subst (λ (ev : Event). FitsWithin s (part_of progress) ev pid.0 (view_of old)) event_is fits))
 
-  pub answers_inside : Answers old (event_of (inside_in old starter) pid act) pid new stepped.planned.outcome
-  answers_inside = subst (λ (ev : Event). Answers old ev pid new stepped.planned.outcome) (sym event_is) inside_answers
+  pub answers_inside : Answers old (event_of (inside_in old starter) pid act) pid new planned.outcome
+  answers_inside = subst (λ (ev : Event). Answers old ev pid new planned.outcome) (sym event_is) inside_answers

@@ -1,5 +1,5 @@
 -- What a step inside a transaction is made with, and what it makes of the transaction.
-use Rattle.std.specs.Prelude.{◌≡◌, ◌++◌, ◌∷◌, [], ℕ, ◌-◌, ◌||◌, Bool, true, false, if◌then◌else◌, List, length, map, Option, Some, None, option_map}
+use Rattle.std.specs.Prelude.{◌≡◌, ◌++◌, ◌∷◌, [], ℕ, Bool, true, false, List, map, Option, Some, None, option_map}
 use Rattle.tx_base.specs.Slots.{slot_at}
 use Rattle.tx_base.specs.declared.marks.Mark.{Mark}
 use Rattle.tx_base.specs.declared.names.Pid.{Pid}
@@ -17,7 +17,7 @@ use Rattle.tx_kernel.specs.declared.planned.Sends.TheVariants.{Nothing, AtOnce, 
 use Rattle.tx_laws.specs.Footprints.{is_shared}
 use Rattle.tx_content.specs.Content.{now_of}
 use Rattle.tx_content.specs.declared.content.Content.{Content}
-use Rattle.tx_content.specs.declared.inside.Stepped.{Stepped}
+use Rattle.tx_content.specs.declared.marking.Member.{Member}
 use Rattle.tx_model.specs.Effects.{Inside as TheInside}
 use Rattle.tx_model.specs.Events.{Event}
 use Rattle.tx_model.specs.History.{event_footprint}
@@ -35,6 +35,10 @@ use Rattle.tx_txn.specs.declared.txn.Txn.{Txn}
 -- what a step of a member is made inside
 abbrev pub inside_in : Content → Pid → Option TheInside
 inside_in k starter = option_map (λ boxed. inside_at boxed.txn.value k.marks) (slot_at k.txns starter.0)
+
+-- the event of a member that does this
+abbrev pub event_inside : Content → Member → Act → Event
+event_inside k member act = event_of (inside_in k member.starter) member.pid act
 
 -- the set is the footprint of the event
 abbrev pub IsFootprint : Content → Event → Objects → Type 0
@@ -76,14 +80,3 @@ pub record RefusesIn (before : Parts) (marks : List (Option Mark)) (pid : Pid) (
   pub is : transaction_of inside ≡ inside_at txn marks
   pub held : inside.held ≡ member_sends (map sending_of txn.outbox.sendings)
   pub refuses : RefusesEvent before (Some inside) (event_of (Some (inside_at txn marks)) pid act) why
-
--- the event was made, and the transaction has reserved the footprint
-pub record StepsIn (before after : Parts) (marks : List (Option Mark)) (owners others : List (Option Pid)) (pid : Pid) (act : Act) (footprint : Objects) (old new : Txn) (stepped : Stepped) : Type 0 where
-  pub middle : Txn
-  pub makes : MakesIn before after marks pid act old middle stepped.planned
-  pub count : stepped.count ≡ length middle.log - length old.log
-  pub reserved : stepped.before ≡ middle.objects
-  pub owns : (o : Object) → owner_of others o ≡ (if is_in footprint o then Some middle.starter.0 else owner_of owners o)
-  pub sized : length others ≡ 352
-  pub objects : (o : Object) → is_in new.objects o ≡ (is_in middle.objects o || is_in footprint o)
-  pub rest : new ≡ record middle { objects = new.objects }

@@ -2,144 +2,81 @@
 ghost use Rattle.std.specs.Prelude.{◌≡◌, ◌++◌, ◌-◌, true, length, Some, IfErr, IfOk, OnErr, OnOk, IsSome};
 ghost use Rattle.tx_base.specs.Slots.{slot_at};
 ghost use Rattle.tx_kernel.specs.Actors.{IsWhole};
-ghost use Rattle.tx_kernel.specs.Acts.{event_of};
 ghost use Rattle.tx_content.specs.Content.{content_of, view_of, IsShaped};
-ghost use Rattle.tx_content.specs.Insides.{handed_out, inside_in, is_handed_out, unmade_of, IsFootprint, IsFree, MakesIn, RefusesIn, StepsIn};
+ghost use Rattle.tx_content.specs.Insides.{event_inside, handed_out, is_handed_out, unmade_of, IsFootprint, IsFree, MakesIn, RefusesIn};
 ghost use Rattle.tx_content.specs.Made.{Answers, IsMade, IsRunning, RefusesStep};
-ghost use Rattle.tx_content.specs.Progresses.{part_of, HasChild};
+ghost use Rattle.tx_content.specs.Progresses.{role_of, HasChild};
 ghost use Rattle.tx_laws.specs.Fits.{Fits};
-ghost use Rattle.tx_model.specs.Membership.{Within};
 ghost use Rattle.tx_txn.specs.Content.{IsKept};
-ghost use Rattle.tx_txn.specs.Txns.{Owns};
 
 use crate::content::Content;
 use crate::inverse::Inverse;
 use crate::laws::laws;
-use crate::marking::{Progress, mark_progress};
+use crate::marking::{Member, mark_progress};
 use crate::member_step::MemberStep;
 use crate::planning::plan;
 use std::alloc::Global;
 use tx_base::{Mark, NoMemory, Pid, Refusal, Slots};
 use tx_change::Parts;
 use tx_kernel::{Act, Outcome, Planned, Sends};
-use tx_reserve::{Objects, Reservations};
+use tx_reserve::Objects;
 use tx_txn::{Outbox, Txn};
 
 impl Content {
-    /// Makes the act of a member that runs, in the starter's transaction, which is live after it.
-    /// The footprint is that of the step, and no other transaction owns any of it. Answers its
-    /// outcome, and puts its inverse into its place.
+    /// Makes the act of a member that runs, in its transaction, which is live after it. The
+    /// footprint is that of the step, and no other transaction owns any of it. Answers its outcome,
+    /// and puts its inverse into its place.
     ///
     /// Refuses as its plan does, and with NoMemory if there is no room for what it hands out; the
     /// content is then as it was.
     pub fn make_inside(
         &mut self,
         alloc: Global,
-        pid: Pid,
-        starter: Pid,
+        member: Member,
         act: &Act,
-        progress: Progress,
         footprint: &Objects,
         inverse: &mut Inverse,
     ) -> Result<Outcome, Refusal>
         requires shaped { IsShaped self.old }
         requires kept { IsKept (content_of self.old) }
         requires whole { IsWhole self.old.parts }
-        requires running { IsRunning (slot_at self.old.parts.procs pid.0) }
-        requires live { IsSome (slot_at self.old.txns starter.0) }
-        requires child { HasChild (length self.old.marks) progress }
-        requires footprint { IsFootprint self.old
-            (event_of (inside_in self.old starter) pid act.now) footprint.now }
-        requires free { IsFree self.old starter.0 footprint.now }
+        requires running { IsRunning (slot_at self.old.parts.procs member.pid.0) }
+        requires live { IsSome (slot_at self.old.txns member.starter.0) }
+        requires child { HasChild (length self.old.marks) member.progress }
+        requires footprint { IsFootprint self.old (event_inside self.old member act.now)
+            footprint.now }
+        requires free { IsFree self.old member.starter.0 footprint.now }
         ensures made { OnOk result
-            (Fits (Within starter.0 (part_of progress))
-            (event_of (inside_in self.old starter) pid act.now) pid.0 (view_of self.old) →
-            IsMade self.old (Within starter.0 (part_of progress))
-            (event_of (inside_in self.old starter) pid act.now) pid.0 self.new inverse.new) }
+            (Fits (role_of member) (event_inside self.old member act.now) member.pid.0
+            (view_of self.old) →
+            IsMade self.old (role_of member) (event_inside self.old member act.now) member.pid.0
+            self.new inverse.new) }
         ensures answer { IfOk result (λ outcome.
-            Answers self.old (event_of (inside_in self.old starter) pid act.now) pid self.new
-            outcome) }
-        ensures refused { IfErr result (RefusesStep self.old
-            (event_of (inside_in self.old starter) pid act.now)) }
+            Answers self.old (event_inside self.old member act.now) member.pid self.new outcome) }
+        ensures refused { IfErr result
+            (RefusesStep self.old (event_inside self.old member act.now)) }
         ensures err { OnErr result (self.new ≡ self.old) }
     {
         laws();
+        let Member { pid, starter, .. } = member;
         let boxed = self.txns.value_mut(starter);
-        let stepped = step_in(
-            alloc,
-            &mut self.parts,
-            &self.marks,
-            &mut self.owners,
-            pid,
-            act,
-            footprint,
-            &mut boxed.txn,
-        );
-        let Stepped {
-            planned,
-            count,
-            before,
-        } = match stepped {
-            Ok(stepped) => stepped,
-            Err(why) => return Err(why),
-        };
-        let marked = mark_progress(&mut self.marks, starter, pid, progress);
+        let txn = &mut *boxed.txn;
+        let from = txn.log.len();
+        let planned = make_in(alloc, &mut self.parts, &self.marks, pid, act, txn)?;
+        let count = txn.log.len() - from;
+        let objects = txn.reserve(&mut self.owners, footprint);
+        self.owners.sized();
+        let marked = mark_progress(&mut self.marks, member);
         let held = hands_out(&planned.sends);
         let step = MemberStep {
             starter,
             count,
-            objects: before,
+            objects,
             marked,
         };
         self.put_inverse(inverse, Inverse::Inside { step, held });
         Ok(planned.outcome)
     }
-}
-
-/// What a step inside a transaction came to.
-#[derive(Clone, Copy)]
-struct Stepped {
-    planned: Planned,
-    /// How many old parts of the log are its own.
-    count: usize,
-    /// What was reserved before.
-    before: Objects,
-}
-
-/// Makes the act of a member, and reserves the footprint.
-///
-/// Refuses as `make_in` does; all is then as it was.
-fn step_in(
-    alloc: Global,
-    parts: &mut Parts,
-    marks: &Slots<Mark>,
-    owners: &mut Reservations,
-    pid: Pid,
-    act: &Act,
-    footprint: &Objects,
-    txn: &mut Txn,
-) -> Result<Stepped, Refusal>
-    requires whole { IsWhole parts.old }
-    requires running { IsRunning (slot_at parts.old.procs pid.0) }
-    requires own { Owns txn.old.starter.0 owners.old txn.old.objects }
-    ensures made { IfOk result (λ stepped.
-        StepsIn parts.old parts.new marks.now owners.old owners.new pid act.now footprint.now
-        txn.old txn.new stepped) }
-    ensures refused { IfErr result (RefusesIn parts.old marks.now pid act.now txn.old) }
-    ensures parts { OnErr result (parts.new ≡ parts.old) }
-    ensures owners { OnErr result (owners.new ≡ owners.old) }
-    ensures txn { OnErr result (txn.new ≡ txn.old) }
-{
-    let from = txn.log.len();
-    let planned = make_in(alloc, parts, marks, pid, act, txn)?;
-    let count = txn.log.len() - from;
-    let before = txn.reserve(owners, footprint);
-    owners.sized();
-    Ok(Stepped {
-        planned,
-        count,
-        before,
-    })
 }
 
 /// Makes the act of a member: its exchanges are in the log then, and what it hands out is held.

@@ -63,7 +63,7 @@ pub use content::{BoxedTxn, Content};
 pub use crossing::{Crossing, Turn};
 pub use inverse::Inverse;
 pub use kept_posts::{KeptPost, TakenPost};
-pub use marking::{Marked, Progress};
+pub use marking::{Marked, Member, Progress};
 pub use member_step::MemberStep;
 pub use table::TxnTable;
 pub use undone::Undone;

@@ -2,8 +2,8 @@
 ghost use Rattle.std.specs.Prelude.{◌≡◌, ℕ, ◌≤◌, length, Some};
 ghost use Rattle.tx_base.specs.Slots.{slot_at, with_slot};
 ghost use Rattle.tx_content.specs.Inverses.{remarked, HasMark};
-ghost use Rattle.tx_content.specs.Progresses.{part_of, HasChild};
-ghost use Rattle.tx_model.specs.Membership.{defers_in, marks_after, new_mark, parked_mark, Within};
+ghost use Rattle.tx_content.specs.Progresses.{role_of, HasChild};
+ghost use Rattle.tx_model.specs.Membership.{defers_in, marks_after, new_mark, parked_mark};
 
 use tx_base::{Mark, Pid, Slots};
 
@@ -17,6 +17,15 @@ pub enum Progress {
     Forks(Pid),
 }
 
+/// A member that makes a step: its process, the starter of its transaction, and what the step does
+/// to the members.
+#[derive(Clone, Copy)]
+pub struct Member {
+    pub pid: Pid,
+    pub starter: Pid,
+    pub progress: Progress,
+}
+
 /// A mark, or none, of a process number.
 #[derive(Clone, Copy)]
 pub struct Marked {
@@ -25,26 +34,20 @@ pub struct Marked {
 }
 
 /// Changes the mark of such a step. Answers what was there.
-pub(crate) fn mark_progress(
-    marks: &mut Slots<Mark>,
-    starter: Pid,
-    pid: Pid,
-    progress: Progress,
-) -> Option<Marked>
-    requires low { 1 ≤ pid.0 }
-    requires high { pid.0 ≤ length marks.old }
-    requires child { HasChild (length marks.old) progress }
+pub(crate) fn mark_progress(marks: &mut Slots<Mark>, member: Member) -> Option<Marked>
+    requires low { 1 ≤ member.pid.0 }
+    requires high { member.pid.0 ≤ length marks.old }
+    requires child { HasChild (length marks.old) member.progress }
     ensures marks { (n : ℕ) →
-        slot_at marks.new n ≡ marks_after (Within starter.0 (part_of progress)) pid.0
-        (slot_at marks.old) n }
+        slot_at marks.new n ≡ marks_after (role_of member) member.pid.0 (slot_at marks.old) n }
     ensures length { length marks.new ≡ length marks.old }
     ensures back { remarked result marks.new ≡ marks.old }
     ensures mark { HasMark marks.new result }
 {
-    match progress {
+    match member.progress {
         Progress::Continues => None,
-        Progress::Parks => Some(swap_mark(marks, pid, parked(marks, pid))),
-        Progress::Forks(child) => Some(swap_mark(marks, child, joined(marks, starter))),
+        Progress::Parks => Some(swap_mark(marks, member.pid, parked(marks, member.pid))),
+        Progress::Forks(child) => Some(swap_mark(marks, child, joined(marks, member.starter))),
     }
 }
 

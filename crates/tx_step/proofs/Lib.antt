@@ -31,3 +31,4 @@ pub mod OutsideTaken
 pub mod InsideTaken
 pub mod EndTaken
 pub mod Idle
+pub mod Through

@@ -13,8 +13,8 @@ use crate::late::late_refusal;
 use crate::laws::laws;
 use crate::request::Request;
 use std::alloc::Global;
-use tx_base::{Pid, Refusal};
-use tx_content::{Content, Inverse, Progress};
+use tx_base::Refusal;
+use tx_content::{Content, Inverse, Member};
 use tx_reserve::Objects;
 
 /// Does what a step requests of a member, and reserves its footprint.
@@ -24,23 +24,22 @@ use tx_reserve::Objects;
 pub(crate) fn take_inside(
     content: &mut Content,
     alloc: Global,
-    pid: Pid,
-    starter: Pid,
-    progress: Progress,
+    member: Member,
     request: Request,
     footprint: &Objects,
     inverse: &mut Inverse,
 ) -> Result<Answered, Refusal>
     requires content { IsContent content.old }
-    requires through { IsLetThrough content.old pid request (role.Inside starter progress) }
+    requires through { IsLetThrough content.old member.pid request
+        (role.Inside member.starter member.progress) }
     requires footprint { IsFootprint content.old
-        (event_on (view_of content.old) (step_of pid request)) footprint.now }
-    ensures { Takes content.old (step_of pid request.entry) result inverse.new content.new }
+        (event_on (view_of content.old) (step_of member.pid request)) footprint.now }
+    ensures { Takes content.old (step_of member.pid request.entry) result inverse.new content.new }
 {
     laws();
     let act = request.act(true);
-    match content.make_inside(alloc, pid, starter, &act, progress, footprint, inverse) {
+    match content.make_inside(alloc, member, &act, footprint, inverse) {
         Ok(outcome) => Ok(Answered::Acted(outcome)),
-        Err(why) => Err(late_refusal(content, pid, &act, why)),
+        Err(why) => Err(late_refusal(content, member.pid, &act, why)),
     }
 }

@@ -4,11 +4,8 @@ ghost use Rattle.std.specs.Prelude.{◌≡◌, None};
 ghost use Rattle.tx_step.specs.Contents.{IsContent, IsIdle};
 ghost use Rattle.tx_step.specs.Early.{early_refusal};
 ghost use Rattle.tx_content.specs.Content.{view_of};
-ghost use Rattle.tx_content.specs.Insides.{IsFootprint};
-ghost use Rattle.tx_model.specs.View.{event_on};
 ghost use Rattle.tx_step.specs.Requests.{step_of};
 ghost use Rattle.tx_step.specs.Steps.{Takes};
-ghost use Rattle.tx_step.specs.Through.{IsLetThrough};
 
 use crate::aborts::take_abort;
 use crate::answered::Answered;
@@ -21,7 +18,7 @@ use crate::request::Request;
 use crate::roles::{Start, StepRole};
 use std::alloc::Global;
 use tx_base::{Call, Pid, Refusal, Signo};
-use tx_content::{Content, Inverse};
+use tx_content::{Content, Inverse, Member};
 use tx_reserve::Objects;
 
 /// Makes a call of a process. Answers what it is answered, and puts its inverse into its place.
@@ -77,14 +74,10 @@ fn take_request(
         return Err(why);
     }
     if content.txns.is_idle() {
-        return take_alone(content, alloc, pid, request, inverse);
+        take_alone(content, alloc, pid, request, inverse)
+    } else {
+        take_beside(content, alloc, pid, request, inverse)
     }
-    let role = request.role(content, pid);
-    let mut footprint = Objects::new();
-    if let Some(starter) = request.way(content, pid, role, &mut footprint) {
-        return Err(Refusal::Busy { starter });
-    }
-    take_as(content, alloc, pid, role, request, &footprint, inverse)
 }
 
 /// Does what a step requests of a process, if nothing refuses it early and no transaction is live,
@@ -108,29 +101,35 @@ fn take_alone(
     }
 }
 
-/// Does what a step requests of a process, by its role.
-fn take_as(
+/// Does what a step requests of a process, by its role, if nothing refuses it early and no
+/// transaction is in its way.
+fn take_beside(
     content: &mut Content,
     alloc: Global,
     pid: Pid,
-    role: StepRole,
     request: Request,
-    footprint: &Objects,
     inverse: &mut Inverse,
 ) -> Result<Answered, Refusal>
     requires content { IsContent content.old }
-    requires through { IsLetThrough content.old pid request role }
-    requires footprint { IsFootprint content.old
-        (event_on (view_of content.old) (step_of pid request)) footprint.now }
+    requires early { early_refusal (view_of content.old) pid.0 (step_of pid request) ≡ None }
     ensures { Takes content.old (step_of pid request.entry) result inverse.new content.new }
 {
+    laws();
+    let role = request.role(content, pid);
+    let mut footprint = Objects::new();
+    if let Some(starter) = request.way(content, pid, role, &mut footprint) {
+        return Err(Refusal::Busy { starter });
+    }
     match role {
         StepRole::Outside => take_outside(content, alloc, pid, request, inverse),
         StepRole::Begins(defers) => take_begin(content, alloc, pid, defers, inverse),
         StepRole::Inside(starter, progress) => {
-            take_inside(
-                content, alloc, pid, starter, progress, request, footprint, inverse,
-            )
+            let member = Member {
+                pid,
+                starter,
+                progress,
+            };
+            take_inside(content, alloc, member, request, &footprint, inverse)
         }
         StepRole::Commits(starter) => take_end(content, alloc, pid, starter, request, inverse),
         StepRole::Aborts(starter) => Ok(take_abort(content, pid, starter, inverse)),

@@ -7,4 +7,4 @@ use Rattle.tx_content.proofs.marking.mark_progress.Goals as goal
 
 pub returns-in-Continues-clause-marks : goal.returns-in-Continues-clause-marks
 returns-in-Continues-clause-marks c = λ n.
-    subst (λ (progress : Progress). slot_at c.args.marks.now n ≡ marks_after (Within c.args.starter.0 (part_of progress)) c.args.pid.0 (slot_at c.args.marks.now) n) (sym c.in-Continues.is) refl
+    subst (λ (progress : Progress). slot_at c.args.marks.now n ≡ marks_after (Within c.args.member.starter.0 (part_of progress)) c.args.member.pid.0 (slot_at c.args.marks.now) n) (sym c.in-Continues.is) refl
