@@ -4,6 +4,7 @@ ghost use Rattle.std.specs.Borrow.{sem};
 ghost use Rattle.std.specs.Prelude.{◌≡◌, ◌≤◌, ◌↔◌, ℕ, [], None, Some, IfOk, IsSome, IsTrue, length, replicate};
 ghost use Rattle.tx_base.specs.Slots.{slot_at, with_slot};
 ghost use Rattle.tx_content.specs.Begins.{StartsOf};
+ghost use Rattle.tx_content.specs.Tables.{live_count};
 
 use crate::content::BoxedTxn;
 use std::alloc::Global;
@@ -55,6 +56,14 @@ impl TxnTable {
             spare: None,
             spare_log: None,
         })
+    }
+
+    /// How many transactions are live.
+    pub fn live_count(&self) -> usize
+        ensures count { result ≡ live_count self.now }
+        ensures few { result ≤ length self.now }
+    {
+        self.live
     }
 
     /// Whether no transaction is live.

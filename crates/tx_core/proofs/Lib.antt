@@ -4,3 +4,4 @@ pub mod LeastNumbers
 pub mod Steps
 pub mod SoFar
 pub mod MadeAgain
+pub mod LivesCounted

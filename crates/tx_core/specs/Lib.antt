@@ -5,3 +5,4 @@ pub mod Runs
 pub mod Undo
 pub mod Owners
 pub mod OwnerFacts
+pub mod Lives

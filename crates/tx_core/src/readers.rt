@@ -1,7 +1,8 @@
 //! What can be read of a machine.
-ghost use Rattle.std.specs.Prelude.{◌≡◌, ◌↔◌, ℕ, true, length, map, option_map, IfSome, IsSome};
+ghost use Rattle.std.specs.Prelude.{◌≡◌, ◌≤◌, ◌↔◌, ℕ, true, length, map, option_map, IfSome, IsSome};
 ghost use Rattle.tx_base.specs.Slots.{slot_at};
 ghost use Rattle.tx_change.specs.States.{state_of};
+ghost use Rattle.tx_core.specs.Lives.{lives};
 ghost use Rattle.tx_core.specs.Machines.{IsWidth};
 ghost use Rattle.tx_core.specs.Owners.{other_owner};
 ghost use Rattle.tx_kernel.specs.Actors.{IsWhole};
@@ -79,6 +80,14 @@ impl Machine {
         ensures { result ≡ is_live (view_of self.now).table starter.0 }
     {
         self.txn_of(starter) == Some(starter)
+    }
+
+    /// How many transactions are live.
+    pub fn live_count(&self) -> usize
+        ensures count { result ≡ lives (view_of self.now).table }
+        ensures few { result ≤ 256 }
+    {
+        self.content.txns.live_count()
     }
 
     /// Whether the live transaction of a starter has reserved the object: false for an object of a

@@ -6,8 +6,9 @@ use Rattle.tx_base.specs.declared.steps.Call.TheVariants.{SysXabort}
 use Rattle.tx_base.specs.declared.steps.Step.{Step}
 use Rattle.tx_base.specs.declared.steps.Step.TheVariants.{Call as Calls, KernelAbort}
 use Rattle.tx_base.specs.declared.steps.Reply.{Reply}
-use Rattle.tx_journal.proofs.Lives.{LessBut, among, counted, no_more}
-use Rattle.tx_journal.specs.Lives.{has_place, lives, one_if, starter_by, starter_of}
+use Rattle.tx_core.specs.Lives.{lives, one_if}
+use Rattle.tx_journal.proofs.Lives.{LessBut, among, no_more}
+use Rattle.tx_journal.specs.Lives.{has_place, starter_by, starter_of}
 use Rattle.tx_laws.specs.Fits.{Fits}
 use Rattle.tx_laws.specs.Sound.{IsSound}
 use Rattle.tx_laws.specs.TwoStates.{states_view}
@@ -47,10 +48,6 @@ starts_within V sound s live = between_bounds V.table.width s (sound.bounded s s
 pub lives_after : (V : View) (step : Step) → IsSound V → IsSound (next V step) →
     lives (next V step).table + one_if (is_live V.table (starter_of V.table step)) ≤ lives V.table + one_if (is_live (next V step).table (starter_of V.table step))
 lives_after V step sound after = grind (arith, among, no_more, same_width, starts_within, step_less)
-
--- a live one is one of them
-pub lives_some : (V : View) (s : ℕ) → IsSound V → is_live V.table s ≡ true → 1 ≤ lives V.table
-lives_some V s sound live = counted s V.table V.table.width (starts_within V sound s live).0 (starts_within V sound s live).1 live
 
 -- an abort leaves its own not live
 gone : (s : ℕ) (mark : Option Mark) → is_of s (mark_unless_of s mark) ≡ false

@@ -1,8 +1,8 @@
 -- A session as it boots, and what its readers say.
-use Rattle.std.proofs.Common.{◌≡◌, ℕ, zero, suc, ◌≤◌, [], List, arith, refl}
+use Rattle.std.proofs.Common.{◌≡◌, ℕ, zero, suc, ◌≤◌, [], List, length, arith, ap, refl}
+use Rattle.tx_core.specs.Lives.{lives, lives_to}
 use Rattle.tx_core.specs.Machines.{IsWidth}
 use Rattle.tx_journal.specs.Entries.{history_of}
-use Rattle.tx_journal.specs.Lives.{lives, lives_to}
 use Rattle.tx_journal.specs.Sessions.{HasRoom, IsJournal, session_state}
 use Rattle.tx_journal.specs.Walks.{WalksBack}
 use Rattle.tx_journal.specs.declared.journal.Journal.{Journal}
@@ -27,13 +27,16 @@ module _ (machine : Content) (width count : ℕ) where
   unfolding Lawful WalksBack
   starts es none is nothing low high wide seen = grind arith
 
-  starts_counted : (es : List Entry) → es ≡ [] → lives (table_of (boot_state width count) (history_of es)) ≤ 0
+  none_at_start : (es : List Entry) → es ≡ [] → lives (table_of (boot_state width count) (history_of es)) ≡ 0
   unfolding table_of
-  starts_counted es none = grind (arith, none_live)
+  none_at_start es none = grind (arith, none_live)
 
   pub journal_starts : (j : Journal) → j.entries.items ≡ [] → j.crossings.inverses ≡ [] → 1 ≤ count → count ≤ width → IsWidth width → view_of machine ≡ view (boot_state width count) [] →
       IsJournal (session_state machine j width count)
   journal_starts j entries inverses low high wide seen = starts j.entries.items entries j.crossings.inverses inverses low high wide seen
 
-  pub room_starts : (j : Journal) → j.entries.items ≡ [] → j.live ≡ 0 → (room places : ℕ) → HasRoom (session_state machine j width count) j.live room places
-  room_starts j entries live room places = grind (arith, starts_counted)
+  pub room_starts : (j : Journal) → j.entries.items ≡ [] → (room places : ℕ) → HasRoom (session_state machine j width count) room places
+  room_starts j entries room places =
+      let none = none_at_start j.entries.items entries in
+      let long : length j.entries.items ≡ 0 = ap length entries in
+      record { entries = omega (arith, none, long); inverses = omega (arith, none, long) }

@@ -1,28 +1,16 @@
 -- A session without its last entries.
-use Rattle.std.proofs.Common.{◌≡◌, ◌≢◌, ℕ, zero, suc, ◌+◌, ◌≤◌, Bool, true, List, [], ◌∷◌, ◌++◌, Option, length, drop, take, reverse, arith, refl, sym, ap, subst, ◌∙◌, length-append}
+use Rattle.std.proofs.Common.{◌≡◌, ◌≢◌, ℕ, zero, suc, ◌+◌, ◌≤◌, true, List, [], ◌∷◌, ◌++◌, Option, length, drop, take, arith, sym, ap, ◌∙◌, length-append}
 use Rattle.std.proofs.lemmas.List.{length-take-le, take_all}
 use Rattle.tx_base.specs.declared.marks.Mark.{Mark}
 use Rattle.tx_base.specs.declared.steps.Accepted.{Accepted}
-use Rattle.tx_journal.proofs.Extended.{walks_view}
+use Rattle.tx_core.specs.Lives.{lives, lives_to}
 use Rattle.tx_journal.proofs.Lives.{LessBut, above, one_less, one_most}
 use Rattle.tx_journal.proofs.Walked.{history_length, history_parts, lawful_to}
 use Rattle.tx_journal.specs.Entries.{history_of}
-use Rattle.tx_journal.specs.Lives.{lives, lives_to, one_if}
-use Rattle.tx_journal.specs.Sessions.{HasRoom, IsJournal, SessionState, made_of, position_of, start_of}
-use Rattle.tx_content.specs.Content.{view_of}
+use Rattle.tx_journal.specs.Sessions.{HasRoom, IsJournal, SessionState, lives_at_end, made_of, position_of, start_of}
 use Rattle.tx_model.specs.History.{table_of}
-use Rattle.tx_model.specs.Membership.{Continues, Parks, Forks, Begins, Role, Outside, Within, Commits, Aborts, Table, is_live, is_of, parked_mark, table_after, mark_unless_of}
+use Rattle.tx_model.specs.Membership.{Continues, Parks, Forks, Begins, Role, Outside, Within, Commits, Aborts, Table, is_of, parked_mark, table_after, mark_unless_of}
 use Rattle.tx_model.specs.State.{State, put_at}
-use Rattle.tx_model.specs.View.{View, view}
-
--- counting
-pub none_counted : (t : Table) → 0 ≡ lives_to t 0
-unfolding lives_to
-none_counted t = refl
-
-pub next_counted : (t : Table) (n count after : ℕ) (is : Bool) → is ≡ is_live t (n + 1) → count ≡ lives_to t n → after ≡ count + one_if is → after ≡ lives_to t (n + 1)
-unfolding lives_to
-next_counted t n count after is here counted more = grind arith
 
 -- what is live is live in the other table too, but for one number
 but_one : (s : ℕ) (new old : Table) (n : ℕ) → LessBut s new old → lives_to new n ≤ lives_to old n + 1
@@ -71,24 +59,14 @@ module _ (k : SessionState) (is : IsJournal k) where
   pub journal_cut : IsJournal (cut_of k)
   journal_cut = grind (arith, all_made, lawful_to, made_length)
 
-  table_seen : (view_of k.machine).table ≡ table_of (start_of k) (history_of (made_of k))
-  unfolding view
-  table_seen = ap (λ (V : View). V.table) (walks_view (start_of k) k.machine (reverse k.inverses) (history_of (made_of k)) is.walks)
-
-  pub room_cut : (live after room places : ℕ) → HasRoom k live room places → after ≡ lives (view_of k.machine).table → HasRoom (cut_of k) after room places
-  room_cut live after room places has counted =
+  pub room_cut : (room places : ℕ) → HasRoom k room places → HasRoom (cut_of k) room places
+  room_cut room places has =
       let later : List Accepted = history_of (drop (position_of k) k.entries) in
-      let now : after ≡ lives (table_of (start_of k) (history_of (made_of k))) = counted ∙ ap lives table_seen in
-      let before : lives (table_of (start_of k) (history_of (made_of k))) ≤ lives (table_of (start_of k) (later ++ history_of (made_of k))) + length later = lives_before (start_of k) later (history_of (made_of k)) in
-      let whole : lives (table_of (start_of k) (later ++ history_of (made_of k))) ≤ live =
-      subst (λ (h : List Accepted). lives (table_of (start_of k) h) ≤ live) (history_parts k.entries (position_of k)) has.counted in
+      let before : lives_at_end (cut_of k) ≤ lives (table_of (start_of k) (later ++ history_of (made_of k))) + length later = lives_before (start_of k) later (history_of (made_of k)) in
+      let whole : lives (table_of (start_of k) (later ++ history_of (made_of k))) ≡ lives_at_end k = ap (λ (h : List Accepted). lives (table_of (start_of k) h)) (sym (history_parts k.entries (position_of k))) in
       let long : length k.entries ≡ length later + length (history_of (made_of k)) =
       sym (history_length k.entries) ∙ ap length (history_parts k.entries (position_of k)) ∙ length-append later (history_of (made_of k)) in
       let made : length (history_of (made_of k)) ≡ length (made_of k) = history_length (made_of k) in
-      let entries : length k.entries + live ≤ room = has.entries in
-      let inverses : length k.entries + live ≤ places = has.inverses in
-      record {
-        counted = omega (arith, now);
-        entries = omega (arith, now, before, whole, long, made, entries);
-        inverses = omega (arith, now, before, whole, long, made, inverses);
-      }
+      let entries = has.entries in
+      let inverses = has.inverses in
+      record { entries = omega (arith, before, whole, long, made, entries); inverses = omega (arith, before, whole, long, made, inverses) }

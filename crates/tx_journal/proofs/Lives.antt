@@ -1,6 +1,6 @@
 -- How many transactions are live, where what is live changes at one number.
 use Rattle.std.proofs.Common.{◌≡◌, ◌≢◌, ℕ, zero, suc, ◌+◌, ◌<◌, ◌≤◌, Bool, true, arith}
-use Rattle.tx_journal.specs.Lives.{lives_to, one_if}
+use Rattle.tx_core.specs.Lives.{lives_to, one_if}
 use Rattle.tx_model.specs.Membership.{Table, is_live}
 
 pub one_most : (a : Bool) → one_if a ≤ 1
@@ -24,12 +24,6 @@ pub among : (s : ℕ) (new old : Table) (n : ℕ) → 1 ≤ s → s ≤ n → Le
 unfolding lives_to
 among s new old zero low high less = absurd (omega (arith, low, high))
 among s new old (suc n) low high less = grind (arith, above, one_less, among s new old n)
-
--- a live one is counted
-pub counted : (s : ℕ) (t : Table) (n : ℕ) → 1 ≤ s → s ≤ n → is_live t s ≡ true → 1 ≤ lives_to t n
-unfolding lives_to
-counted s t zero low high is = absurd (omega (arith, low, high))
-counted s t (suc n) low high is = grind (arith, counted s t n)
 
 -- where no more are live, no more are counted
 pub no_more : (new old : Table) (n : ℕ) → ((s : ℕ) → is_live new s ≡ true → is_live old s ≡ true) → lives_to new n ≤ lives_to old n

@@ -18,7 +18,7 @@ use Rattle.tx_content.specs.declared.undone.Undone.{Undone}
 -- what is so of the fields of a session
 abbrev pub IsSession : Content → Journal → ℕ → ℕ → Type 0
 IsSession machine j width count =
-    IsJournal (session_state machine j width count) × HasRoom (session_state machine j width count) j.live (vec_capacity j.entries) j.crossings.room
+    IsJournal (session_state machine j width count) × HasRoom (session_state machine j width count) (vec_capacity j.entries) j.crossings.room
     × IsAhead (session_state machine j width count) j.crossings.undone j.crossings.stack
 
 -- the journal with other crossings
@@ -34,7 +34,7 @@ module _ (machine : Content) (j : Journal) (width count : ℕ) (is : IsSession m
   with new inverses = record { machine = new; entries = j.entries.items; inverses = inverses; width = width; count = count }
 
   abbrev IsSessionOf : Content → List Inverse → ℕ → List Undone → List Change → Type 0
-  IsSessionOf new inverses room undone stack = IsJournal (with new inverses) × HasRoom (with new inverses) j.live (vec_capacity j.entries) room × IsAhead (with new inverses) undone stack
+  IsSessionOf new inverses room undone stack = IsJournal (with new inverses) × HasRoom (with new inverses) (vec_capacity j.entries) room × IsAhead (with new inverses) undone stack
 
   back_by : IsMachine machine → (new : Content) (crossings : Crossed) (rest : List Inverse) (inverse : Inverse) → j.crossings.inverses ≡ rest ++ inverse ∷ [] → GoesBack machine j.crossings new crossings rest inverse →
       IsSession new (crossed j crossings) width count
@@ -42,7 +42,7 @@ module _ (machine : Content) (j : Journal) (width count : ℕ) (is : IsSession m
       subst (λ (xs : List Inverse). IsSessionOf new xs crossings.room crossings.undone crossings.stack) (sym goes.inverses)
       (subst (λ (n : ℕ). IsSessionOf new rest n crossings.undone crossings.stack) (sym goes.room) (
         journal_less k is.0 rest inverse parts new goes.back,
-        record { counted = is.1.counted; entries = is.1.entries; inverses = is.1.inverses },
+        record { entries = is.1.entries; inverses = is.1.inverses },
         ahead_less k is.0 rest inverse parts new j.crossings.undone crossings.undone j.crossings.stack crossings.stack is_machine is.2 (goes.kept (ends_whole k is.0 rest inverse parts)),
       ))
 
@@ -84,7 +84,7 @@ module _ (machine : Content) (j : Journal) (width count : ℕ) (is : IsSession m
       subst (λ (us : List Undone). IsSessionOf new crossings.inverses crossings.room us crossings.stack) (sym goes.undone)
       (subst (λ (n : ℕ). IsSessionOf new crossings.inverses n rest crossings.stack) (sym goes.room) (
         subst (λ (xs : List Inverse). IsJournal (with new xs)) (sym goes.inverses) (journal_made k is.0 next.entry next.next new goes.inverse (ap view_of there ∙ next.seen) goes.leads goes.undoes goes.whole),
-        record { counted = is.1.counted; entries = is.1.entries; inverses = is.1.inverses },
+        record { entries = is.1.entries; inverses = is.1.inverses },
         ahead_next k is.0 undone rest j.crossings.stack next new goes.inverse crossings.inverses crossings.stack there goes.inverses (goes.stack ∙ next.taken.below),
       ))
 

@@ -1,22 +1,10 @@
--- How many transactions are live.
-use Rattle.std.specs.Prelude.{ℕ, zero, suc, ◌+◌, Bool, true, false, Option, Some, None, is_some}
+-- Whose transaction a step may begin or end.
+use Rattle.std.specs.Prelude.{ℕ, Bool, true, false, Option, Some, None, is_some}
 use Rattle.tx_base.specs.declared.marks.Mark.{Mark}
 use Rattle.tx_base.specs.declared.steps.Call.TheVariants.{SysXabort}
 use Rattle.tx_base.specs.declared.steps.Step.{Step}
 use Rattle.tx_base.specs.declared.steps.Step.TheVariants.{Call as Calls, Deliver, KernelAbort}
-use Rattle.tx_model.specs.Membership.{Table, is_live}
-
-abbrev pub one_if : Bool → ℕ
-one_if true = 1
-one_if false = 0
-
--- the starters of live transactions among the numbers 1 to n
-unfoldable pub lives_to : Table → ℕ → ℕ
-lives_to t zero = 0
-lives_to t (suc n) = one_if (is_live t (suc n)) + lives_to t n
-
-abbrev pub lives : Table → ℕ
-lives t = lives_to t t.width
+use Rattle.tx_model.specs.Membership.{Table}
 
 -- the starter whose transaction a mark of process p names, or would name if p began one
 abbrev pub starter_by : ℕ → Option Mark → ℕ

@@ -1,9 +1,10 @@
 -- The room of a journal.
-use Rattle.std.specs.Prelude.{◌≡◌, ◌⊎◌, ℕ, ◌+◌, ◌≤◌, ◌<◌, ◌^◌, ◌++◌, ◌∷◌, [], true, length, vec_capacity}
+use Rattle.std.specs.Prelude.{◌≡◌, ◌⊎◌, ℕ, ◌+◌, ◌≤◌, ◌++◌, ◌∷◌, [], true, length, vec_capacity}
 use Rattle.tx_base.specs.declared.steps.Step.{Step}
 use Rattle.tx_core.specs.Undo.{LeadsBack}
 use Rattle.tx_journal.specs.Crossings.{SameCrossed}
-use Rattle.tx_journal.specs.Lives.{has_place, lives}
+use Rattle.tx_core.specs.Lives.{lives}
+use Rattle.tx_journal.specs.Lives.{has_place}
 use Rattle.tx_journal.specs.declared.entry.Entry.{Entry}
 use Rattle.tx_journal.specs.declared.journal.Journal.{Journal}
 use Rattle.tx_content.specs.Content.{view_of}
@@ -17,21 +18,19 @@ use Rattle.tx_model.specs.Membership.{Table}
 pub record SameRecord (new old : Journal) : Type 0 where
   pub entries : new.entries.items ≡ old.entries.items
   pub crossings : SameCrossed new.crossings old.crossings
-  pub live : new.live ≡ old.live
 
 -- there is room for this many more entries, and for what takes them back
 pub record HasPlaces (j : Journal) (count : ℕ) : Type 0 where
   pub entries : length j.entries.items + count ≤ vec_capacity j.entries
   pub inverses : length j.entries.items + count ≤ j.crossings.room
 
+-- there is room for the abort of each live transaction
+abbrev pub HasAbortPlaces : Content → Journal → Type 0
+HasAbortPlaces k j = HasPlaces j (lives (view_of k).table)
+
 -- there is room for the entry of a step, and for the abort of each transaction that is live after it
 abbrev pub IsReady : Table → Step → Journal → Type 0
-IsReady t step j = (HasPlaces j (j.live + 2) × (j.live + 2 < 2 ^ 64)) ⊎ (HasPlaces j j.live × (has_place t step ≡ true))
-
--- what is live is counted, and has room for its aborts
-pub record IsCounted (k : Content) (j : Journal) : Type 0 where
-  pub lives : lives (view_of k).table ≤ j.live
-  pub places : HasPlaces j j.live
+IsReady t step j = HasPlaces j (lives t + 2) ⊎ (HasPlaces j (lives t) × (has_place t step ≡ true))
 
 -- the entry was added, with what leads the content back
 pub record IsAdded (k : Content) (j : Journal) (entry : Entry) (new : Content) (after : Journal) : Type 0 where
@@ -42,4 +41,4 @@ pub record IsAdded (k : Content) (j : Journal) (entry : Entry) (new : Content) (
   pub leads : LeadsBack new inverse
   pub undoes : Undoes new inverse k
   pub whole : EndsWhole new inverse
-  pub counted : IsCounted new after
+  pub places : HasAbortPlaces new after

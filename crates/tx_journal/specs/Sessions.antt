@@ -2,9 +2,9 @@
 use Rattle.std.specs.Prelude.{◌≡◌, ◌⊎◌, ℕ, ◌+◌, ◌≤◌, List, drop, length, map, reverse, take}
 use Rattle.tx_base.specs.declared.steps.Accepted.{Accepted}
 use Rattle.tx_change.specs.declared.change.Change.{Change}
+use Rattle.tx_core.specs.Lives.{lives}
 use Rattle.tx_core.specs.Machines.{IsWidth}
 use Rattle.tx_journal.specs.Entries.{accepted_of, history_of}
-use Rattle.tx_journal.specs.Lives.{lives}
 use Rattle.tx_journal.specs.Walks.{WalksBack, WalksOn}
 use Rattle.tx_journal.specs.declared.entry.Entry.{Entry}
 use Rattle.tx_journal.specs.declared.journal.Journal.{Journal}
@@ -57,12 +57,14 @@ later_of k = map accepted_of (drop (position_of k) k.entries)
 abbrev pub IsAhead : SessionState → List Undone → List Change → Type 0
 IsAhead k undone stack = WalksOn (start_of k) k.machine undone stack (history_of (made_of k)) (later_of k)
 
--- given how many transactions are counted, at least those live after the last entry, and for how many entries and inverses there is room:
--- there is room for the abort of each
-pub record HasRoom (k : SessionState) (live room places : ℕ) : Type 0 where
-  pub counted : lives (table_of (start_of k) (history_of k.entries)) ≤ live
-  pub entries : length k.entries + live ≤ room
-  pub inverses : length k.entries + live ≤ places
+-- how many transactions are live after the last entry
+abbrev pub lives_at_end : SessionState → ℕ
+lives_at_end k = lives (table_of (start_of k) (history_of k.entries))
+
+-- given for how many entries and inverses there is room: there is room for the abort of each of those
+pub record HasRoom (k : SessionState) (room places : ℕ) : Type 0 where
+  pub entries : length k.entries + lives_at_end k ≤ room
+  pub inverses : length k.entries + lives_at_end k ≤ places
 
 -- the session is at its end: all entries are made
 abbrev pub IsAtEnd : SessionState → Type 0

@@ -8,15 +8,14 @@
 //! one entry fewer (`WalksBack`). So where `forward` makes a step anew, its answer is the entry's
 //! reply.
 //!
-//! `cut` counts anew what is live; there is room, since each entry that goes ended at most one
-//! transaction (`Cut.antt`). `put_state` prints live transactions in one pass over the marks and
+//! After `cut` there is room still, since each entry that goes ended at most one transaction
+//! (`Cut.antt`). `put_state` prints live transactions in one pass over the marks and
 //! one over the starters.
 //!
 //! An entry's place is reserved before its step, or for many by `reserve`: a list that grows as it
 //! needs would have room for twice its entries, and while it moves, for both. A transaction that
-//! begins takes one place more, so its abort needs no memory. For that `Journal` counts live
-//! transactions, at least as many as there are (`HasRoom`), by whether the step's starter was live
-//! before and is after (`After.antt`, `Lives.antt`).
+//! begins takes one place more, so its abort needs no memory (`HasRoom`): at most one more is live
+//! after a step, and one less after an abort (`After.antt`, `Lives.antt`).
 //!
 //! `Retrace` is a content of tx_content that makes a history's steps again, from boot. `next`
 //! answers a step's `Note`: its transaction's starter, and whether the step begins it, commits it,

@@ -1,11 +1,11 @@
 //! Makes a step, and adds its entry.
-ghost use Rattle.std.specs.Prelude.{◌≡◌, ◌≢◌, ◌↔◌, ◌⊎◌, [], ◌+◌, ◌≤◌, ◌<◌, ◌^◌, IsOk, IsTrue, OnErr, OnOk, false, length, true};
+ghost use Rattle.std.specs.Prelude.{◌≡◌, ◌≢◌, ◌↔◌, ◌⊎◌, [], IsOk, IsTrue, OnErr, OnOk, false, length, true};
 ghost use Rattle.tx_base.specs.declared.steps.Reply.TheVariants.{Aborted, No};
 ghost use Rattle.tx_base.specs.declared.steps.Step.TheVariants.{KernelAbort};
 ghost use Rattle.tx_core.specs.Runs.{Continues, kernel_abort_on};
 ghost use Rattle.tx_journal.specs.Entries.{entry_by};
-ghost use Rattle.tx_journal.specs.Lives.{has_place, one_if, starter_by, starter_of};
-ghost use Rattle.tx_journal.specs.Rooms.{IsAdded, IsCounted, IsReady, SameRecord};
+ghost use Rattle.tx_journal.specs.Lives.{has_place, starter_by, starter_of};
+ghost use Rattle.tx_journal.specs.Rooms.{HasAbortPlaces, IsAdded, IsReady, SameRecord};
 ghost use Rattle.tx_laws.specs.Sound.{IsSound};
 ghost use Rattle.tx_content.specs.Content.{view_of};
 ghost use Rattle.tx_model.specs.Answer.{IsAccepted, answer};
@@ -35,14 +35,14 @@ pub(crate) fn record(
     requires sound { IsSound (view_of machine.old) }
     requires at_end { length journal.old.crossings.inverses ≡ length journal.old.entries.items }
     requires none { journal.old.crossings.undone ≡ [] }
-    requires counted { IsCounted machine.old journal.old }
+    requires places { HasAbortPlaces machine.old journal.old }
     ensures accepted { IsTrue result ↔ IsAccepted reply.new }
     ensures added { IsTrue result →
         IsAdded machine.old journal.old
         (record { step = step.old; worker = worker; reply = reply.new }) machine.new journal.new }
     ensures machine { result ≡ false → machine.new ≡ machine.old }
     ensures journal { result ≡ false → SameRecord journal.new journal.old }
-    ensures counted { result ≡ false → IsCounted machine.old journal.new }
+    ensures places { result ≡ false → HasAbortPlaces machine.old journal.new }
     ensures answer { (reply.new ≡ No Refusal.NoMemory)
         ⊎ (answer (view_of machine.old) step.old ≡ reply.new) }
     ensures history { IsTrue result →
@@ -64,16 +64,16 @@ pub(crate) fn record(
 fn prepare(machine: &Machine, journal: &mut Journal, step: &Step) -> Result<(), NoMemory>
     requires at_end { length journal.old.crossings.inverses ≡ length journal.old.entries.items }
     requires none { journal.old.crossings.undone ≡ [] }
-    requires counted { IsCounted machine.now journal.old }
+    requires places { HasAbortPlaces machine.now journal.old }
     ensures same { SameRecord journal.new journal.old }
-    ensures counted { IsCounted machine.now journal.new }
+    ensures places { HasAbortPlaces machine.now journal.new }
     ensures ready { OnOk result (IsReady (view_of machine.now).table step.now journal.new) }
-    ensures place { has_place (view_of machine.now).table step.now ≡ true → IsOk result }
+    ensures aborts { has_place (view_of machine.now).table step.now ≡ true → IsOk result }
 {
     if has_place(machine, step) {
         return Ok(());
     }
-    journal.reserve()
+    journal.reserve(machine.live_count() + 2)
 }
 
 /// Makes a step, puts its reply into the caller's place, and moves it into its entry if it was
@@ -90,7 +90,7 @@ fn make(
     requires sound { IsSound (view_of machine.old) }
     requires at_end { length journal.old.crossings.inverses ≡ length journal.old.entries.items }
     requires none { journal.old.crossings.undone ≡ [] }
-    requires counted { IsCounted machine.old journal.old }
+    requires places { HasAbortPlaces machine.old journal.old }
     requires ready { IsReady (view_of machine.old).table step.old journal.old }
     ensures accepted { IsTrue result ↔ IsAccepted reply.new }
     ensures added { IsTrue result →
@@ -107,14 +107,11 @@ fn make(
     ensures kernel { IsKernelAbort step.old → reply.new ≢ No Refusal.NoMemory }
 {
     laws();
-    let (starter, was) = starter_before(machine, step);
     let mut inverse = Inverse::blank();
     if !machine.step_into(alloc, step, reply, &mut inverse) {
         return false;
     }
-    let is = machine.is_live(starter);
     journal.add(worker, step, reply, inverse);
-    journal.live = live_after(journal.live, was, is);
     true
 }
 
@@ -131,7 +128,7 @@ pub(crate) fn abort(
     requires sound { IsSound (view_of machine.old) }
     requires at_end { length journal.old.crossings.inverses ≡ length journal.old.entries.items }
     requires none { journal.old.crossings.undone ≡ [] }
-    requires counted { IsCounted machine.old journal.old }
+    requires places { HasAbortPlaces machine.old journal.old }
     ensures live { IsOk result ↔ (is_live (view_of machine.old).table starter.0 ≡ true) }
     ensures added { OnOk result (IsAdded machine.old journal.old
         (entry_by worker (kernel_abort_on machine.old starter)) machine.new journal.new) }
@@ -147,7 +144,6 @@ pub(crate) fn abort(
     let inverse = machine.kernel_abort(starter)?;
     let mut step = Step::KernelAbort(starter);
     journal.add(worker, &mut step, &Reply::Aborted(status), inverse);
-    journal.live -= 1;
     Ok(())
 }
 
@@ -163,41 +159,20 @@ pub(crate) fn has_place(machine: &Machine, step: &Step) -> bool
     }
 }
 
-/// Whose transaction a step may begin or end, and whether there is a live one before it.
-#[inline(always)] // as `record`
-pub(crate) fn starter_before(machine: &Machine, step: &Step) -> (Pid, bool)
-    ensures starter { result.0.0 ≡ starter_of (view_of machine.now).table step.now }
-    ensures live { result.1 ≡ is_live (view_of machine.now).table result.0.0 }
+/// Whose transaction a step may begin or end.
+pub(crate) fn starter_of(machine: &Machine, step: &Step) -> Pid
+    ensures { result.0 ≡ starter_of (view_of machine.now).table step.now }
 {
     match step {
-        Step::KernelAbort(starter) => (*starter, machine.is_live(*starter)),
+        Step::KernelAbort(starter) => *starter,
         Step::Call(pid, _) => starter_by(machine, *pid),
         Step::Deliver(pid, _) => starter_by(machine, *pid),
     }
 }
 
-/// The starter of the live transaction that a process is a member of, or the process if it is none;
-/// and whether that has a live one.
-#[inline(always)] // as `record`
-fn starter_by(machine: &Machine, pid: Pid) -> (Pid, bool)
-    ensures starter { result.0.0 ≡ starter_by pid.0 ((view_of machine.now).table.marks pid.0) }
-    ensures live { result.1 ≡ is_live (view_of machine.now).table result.0.0 }
+/// The starter of the live transaction that a process is a member of, or the process if it is none.
+fn starter_by(machine: &Machine, pid: Pid) -> Pid
+    ensures { result.0 ≡ starter_by pid.0 ((view_of machine.now).table.marks pid.0) }
 {
-    match machine.txn_of(pid) {
-        Some(starter) => (starter, machine.is_live(starter)),
-        None => (pid, false),
-    }
-}
-
-/// How many transactions are live after a step that left this one live or not.
-fn live_after(live: usize, was: bool, is: bool) -> usize
-    requires some { was ≡ true → 1 ≤ live }
-    requires fits { is ≡ true → live + 1 < 2 ^ 64 }
-    ensures { result + one_if was ≡ live + one_if is }
-{
-    match (was, is) {
-        (true, false) => live - 1,
-        (false, true) => live + 1,
-        _ => live,
-    }
+    machine.txn_of(pid).unwrap_or(pid)
 }

@@ -7,7 +7,7 @@ ghost use Rattle.tx_journal.specs.Reaches.{IsSmall, Reaches};
 ghost use Rattle.tx_content.specs.Content.{view_of};
 ghost use Rattle.tx_reserve.specs.Objects.{is_small, object_of};
 
-use crate::making::{has_place, starter_before};
+use crate::making::{has_place, starter_of};
 use crate::pieces::Piece;
 use std::alloc::Global;
 use tx_base::{Mark, NoMemory, Pid, Slots, Step};
@@ -33,7 +33,7 @@ impl Reach {
         ensures { IfOk result (λ reach. Reaches reach (view_of machine.now) step.now) }
     {
         machine.is_kept();
-        let (starter, _live) = starter_before(machine, step);
+        let starter = starter_of(machine, step);
         let own = own_marks(alloc, machine, starter)?;
         let names = footprint(machine.parts(), &own, machine.held(starter), step);
         Ok(Reach {

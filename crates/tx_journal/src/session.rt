@@ -46,8 +46,7 @@ impl Model for Session {
     ghost invariant = { λ session. IsJournal
         (session_state session.machine session.journal session.width session.count)
         × HasRoom (session_state session.machine session.journal session.width session.count)
-        session.journal.live (vec_capacity session.journal.entries)
-        session.journal.crossings.room
+        (vec_capacity session.journal.entries) session.journal.crossings.room
         × IsAhead (session_state session.machine session.journal session.width session.count)
         session.journal.crossings.undone session.journal.crossings.stack };
 }
@@ -118,7 +117,7 @@ impl Session {
         let Some(count) = steps.checked_add(aborts) else {
             return Err(NoMemory);
         };
-        self.journal.grow(count)
+        self.journal.reserve(count)
     }
 
     /// Makes room to keep what makes the entries after this position again, once they are taken

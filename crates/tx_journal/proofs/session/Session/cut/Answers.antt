@@ -13,9 +13,9 @@ invariant_of-self c =
     let after : SessionState = record { machine = k.machine; entries = c.truncate.new.self.items; inverses = c.cut.new.self.inverses; width = k.width; count = k.count } in
     let same : cut_of k ≡ after = λ i. record { machine = k.machine; entries = sym left i; inverses = sym c.cut.ensures.inverses i; width = k.width; count = k.count } in (
       subst IsJournal same (journal_cut k c.self.invariant.0),
-      subst (λ (it : SessionState). HasRoom it c.live_count-self-inside.result (vec_capacity c.truncate.new.self) c.cut.new.self.room) same
-          (subst (λ (room : ℕ). HasRoom (cut_of k) c.live_count-self-inside.result room c.cut.new.self.room) (sym c.truncate.ensures.capacity)
-          (subst (λ (room : ℕ). HasRoom (cut_of k) c.live_count-self-inside.result (vec_capacity c.self.inside.journal.entries) room) (sym c.cut.ensures.room)
-          (room_cut k c.self.invariant.0 c.self.inside.journal.live c.live_count-self-inside.result (vec_capacity c.self.inside.journal.entries) c.self.inside.journal.crossings.room c.self.invariant.1 c.live_count-self-inside.ensures))),
+      subst (λ (it : SessionState). HasRoom it (vec_capacity c.truncate.new.self) c.cut.new.self.room) same
+          (subst (λ (room : ℕ). HasRoom (cut_of k) room c.cut.new.self.room) (sym c.truncate.ensures.capacity)
+          (subst (λ (room : ℕ). HasRoom (cut_of k) (vec_capacity c.self.inside.journal.entries) room) (sym c.cut.ensures.room)
+          (room_cut k c.self.invariant.0 (vec_capacity c.self.inside.journal.entries) c.self.inside.journal.crossings.room c.self.invariant.1))),
       nothing_ahead after c.cut.new.self.undone c.cut.new.self.stack c.cut.ensures.undone,
     )

@@ -1,6 +1,6 @@
 use Rattle.std.proofs.Common.{sym, subst, arith}
 use Rattle.tx_journal.proofs.Aheads.{none_after, none_at_end, nothing_ahead}
-use Rattle.tx_journal.proofs.Kept.{counted_now, kept_after, sound_now}
+use Rattle.tx_journal.proofs.Kept.{places_now, kept_after, sound_now}
 use Rattle.tx_journal.specs.Sessions.{session_state, IsAtEnd}
 use Rattle.std.proofs.lemmas.Grind.{common_steps}
 use Rattle.tx_journal.proofs.session.Session.enter.Goals as goal
@@ -8,8 +8,8 @@ use Rattle.tx_journal.proofs.session.Session.enter.Goals as goal
 pub record-made-requires-clause-sound : goal.record-made-requires-clause-sound
 record-made-requires-clause-sound c = grind (arith, common_steps, sound_now)
 
-pub record-made-requires-clause-counted : goal.record-made-requires-clause-counted
-record-made-requires-clause-counted c = grind (arith, common_steps, counted_now)
+pub record-made-requires-clause-places : goal.record-made-requires-clause-places
+record-made-requires-clause-places c = grind (arith, common_steps, places_now)
 
 pub record-made-requires-clause-none : goal.record-made-requires-clause-none
 record-made-requires-clause-none c =
@@ -23,7 +23,7 @@ invariant_of-self c =
     let kept =
     kept_after c.laws.ensures c.self.inside.machine c.self.inside.journal c.self.inside.width c.self.inside.count (c.self.invariant.0, c.self.invariant.1) at_end
     (record { step = c.args.step.now; worker = c.args.worker; reply = c.record-made.new.reply }) c.record-made.new.machine c.record-made.new.journal c.record-made.result
-    c.record-made.ensures.added c.record-made.ensures.machine c.record-made.ensures.journal c.record-made.ensures.counted c.record-made.ensures.history in (
+    c.record-made.ensures.added c.record-made.ensures.machine c.record-made.ensures.journal c.record-made.ensures.places c.record-made.ensures.history in (
       kept.0,
       kept.1,
       nothing_ahead (session_state c.record-made.new.machine c.record-made.new.journal c.self.inside.width c.self.inside.count) c.record-made.new.journal.crossings.undone c.record-made.new.journal.crossings.stack

@@ -2,7 +2,7 @@ use Rattle.std.proofs.Common.{sym, subst, arith}
 use Rattle.tx_base.specs.declared.steps.Reply.TheVariants.{Aborted}
 use Rattle.tx_base.specs.declared.steps.Step.TheVariants.{KernelAbort}
 use Rattle.tx_journal.proofs.Aheads.{none_answered, none_at_end, nothing_ahead}
-use Rattle.tx_journal.proofs.Kept.{counted_now, kept_answered, sound_now}
+use Rattle.tx_journal.proofs.Kept.{places_now, kept_answered, sound_now}
 use Rattle.tx_journal.specs.Sessions.{session_state, IsAtEnd}
 use Rattle.tx_content.specs.Content.{view_of}
 use Rattle.tx_model.specs.View.{kernel_status}
@@ -12,8 +12,8 @@ use Rattle.tx_journal.proofs.session.Session.kernel_abort.Goals as goal
 pub abort-requires-clause-sound : goal.abort-requires-clause-sound
 abort-requires-clause-sound c = grind (arith, common_steps, sound_now)
 
-pub abort-requires-clause-counted : goal.abort-requires-clause-counted
-abort-requires-clause-counted c = grind (arith, common_steps, counted_now)
+pub abort-requires-clause-places : goal.abort-requires-clause-places
+abort-requires-clause-places c = grind (arith, common_steps, places_now)
 
 pub abort-requires-clause-none : goal.abort-requires-clause-none
 abort-requires-clause-none c =

@@ -2,7 +2,7 @@ use Rattle.std.proofs.Common.{◌≡◌, ℕ, ◌+◌, ◌≤◌, List, [], ◌�
 use Rattle.std.proofs.lemmas.Option.{slice_get-get_or}
 use Rattle.tx_journal.proofs.Aheads.{nothing_ahead}
 use Rattle.tx_journal.proofs.Walked.{journal_next}
-use Rattle.tx_journal.specs.Sessions.{session_state, position_of, IsJournal, SessionState}
+use Rattle.tx_journal.specs.Sessions.{lives_at_end, session_state, position_of, IsJournal, SessionState}
 use Rattle.tx_journal.specs.declared.entry.Entry.{Entry}
 use Rattle.tx_content.specs.declared.inverse.Inverse.{Inverse}
 use Rattle.tx_journal.proofs.session.Session.make_next.Goals as goal
@@ -19,9 +19,8 @@ invariant_of-self-2 c =
           (c.step_into-is_made.ensures.accepted c.if-not-is_made.false).accepted c.step_into-is_made.ensures.answer (c.step_into-is_made.ensures.history (c.step_into-is_made.ensures.accepted c.if-not-is_made.false).accepted)
           (c.step_into-is_made.ensures.back c.if-not-is_made.false) (c.step_into-is_made.ensures.accepted c.if-not-is_made.false).back (c.step_into-is_made.ensures.accepted c.if-not-is_made.false).whole),
       record {
-        counted = c.self.invariant.1.counted;
         entries = c.self.invariant.1.entries;
-        inverses = subst (λ (n : ℕ). length c.self.inside.journal.entries.items + c.self.inside.journal.live ≤ n) (sym (c.push.ensures.room ∙ c.cut.ensures.room)) c.self.invariant.1.inverses;
+        inverses = subst (λ (n : ℕ). length c.self.inside.journal.entries.items + lives_at_end (session_state c.self.inside.machine c.self.inside.journal c.self.inside.width c.self.inside.count) ≤ n) (sym (c.push.ensures.room ∙ c.cut.ensures.room)) c.self.invariant.1.inverses;
       },
       nothing_ahead
           (record { machine = c.step_into-is_made.new.self; entries = c.self.inside.journal.entries.items; inverses = c.push.new.self.inverses; width = c.self.inside.width; count = c.self.inside.count })
