@@ -1,8 +1,12 @@
-"""What may be used of this machine: its processors, and the memory that is free."""
+"""What may be used of this machine: its processors, and the memory that is free.
+
+usage: python3 tools/machine.py BYTES    prints how many runs that take so many bytes each may go on at once
+"""
 from __future__ import annotations
 
 import os
 import re
+import sys
 
 # The limits of a control group, in its two versions: of memory, with what is held of it, and of processors.
 MEMORY_LIMITS = [
@@ -51,3 +55,7 @@ def processors() -> int:
 def runs_at_once(size: int) -> int:
     """How many runs that take so many bytes each may go on at once."""
     return max(1, min(processors(), free_memory() // size))
+
+
+if __name__ == "__main__":
+    print(runs_at_once(int(sys.argv[1])))
