@@ -3,29 +3,40 @@ use std::alloc::Global;
 use std::test::Fail;
 use tx_base::{Call, DescNo, NoMemory, Pid, PipeNo, Reply, Step};
 use tx_core::{Free, Machine, NoTransaction, run};
-use tx_reserve::{Object, footprint};
+use tx_reserve::{Object, Objects, footprint};
 
 /// The call of process 2.
 fn of_second(call: Call) -> Step {
     Step::Call(Pid(2), call)
 }
 
+/// Whether process 2 begins a transaction.
+fn begins(alloc: Global, machine: &mut Machine) -> bool {
+    let (reply, _inverse) = machine.step(alloc, &of_second(Call::SysXbegin));
+    matches!(reply, Reply::Done(0))
+}
+
+/// Aborts the transaction of process 2 as the kernel does, and takes that back. Whether process 2
+/// is a member of none, and then of its own.
+fn is_aborted_and_back(machine: &mut Machine) -> bool {
+    let Ok(inverse) = machine.kernel_abort(Pid(2)) else {
+        return false;
+    };
+    let is_gone = machine.txn_of(Pid(2)).is_none() && machine.marks().get(Pid(2)).is_none();
+    machine.undo(inverse);
+    is_gone && machine.txn_of(Pid(2)) == Some(Pid(2)) && machine.held(Pid(2)).is_empty()
+}
+
 #[test]
 fn aborts_by_the_kernel_and_back(rt: HostRuntime) -> Result<(), Fail> {
     let mut machine = Machine::boot_wide(rt.alloc(), 3)?;
-    let (reply, _inverse) = machine.step(rt.alloc(), &of_second(Call::SysXbegin));
-    assert!(rt; matches!(reply, Reply::Done(0)), "it begins");
+    assert!(rt; begins(rt.alloc(), &mut machine));
     assert!(rt; machine.kernel_status(Pid(2)) == Some(202));
     assert!(rt;
         matches!(machine.kernel_abort(Pid(3)), Err(NoTransaction)),
         "3 has none"
     );
-    let Ok(inverse) = machine.kernel_abort(Pid(2)) else {
-        panic!(rt; "2 has one");
-    };
-    assert!(rt; machine.txn_of(Pid(2)).is_none() && machine.marks().get(Pid(2)).is_none());
-    machine.undo(inverse);
-    assert!(rt; machine.txn_of(Pid(2)) == Some(Pid(2)) && machine.held(Pid(2)).is_empty());
+    assert!(rt; is_aborted_and_back(&mut machine));
     Ok(())
 }
 
@@ -64,11 +75,15 @@ fn picks_the_least_free_numbers(rt: HostRuntime) -> Result<(), Fail> {
     Ok(())
 }
 
+/// What a step names, if its process has sent nothing that is held.
+fn named_by(machine: &Machine, step: &Step) -> Objects {
+    footprint(machine.parts(), machine.marks(), &[], step)
+}
+
 #[test]
 fn a_kill_names_its_target(rt: HostRuntime) -> Result<(), Fail> {
     let machine = Machine::boot(rt.alloc(), 3)?;
-    let step = of_second(Call::Kill(3, 10));
-    let named = footprint(machine.parts(), machine.marks(), &[], &step);
+    let named = named_by(&machine, &of_second(Call::Kill(3, 10)));
     assert!(rt; named.has(Object::Proc(Pid(2))) && named.has(Object::Proc(Pid(3))));
     assert!(rt; !named.has(Object::Proc(Pid(1))));
     Ok(())
@@ -77,10 +92,8 @@ fn a_kill_names_its_target(rt: HostRuntime) -> Result<(), Fail> {
 #[test]
 fn a_missing_process_names_itself_and_the_kernel_nothing(rt: HostRuntime) -> Result<(), Fail> {
     let machine = Machine::boot(rt.alloc(), 3)?;
-    let missing = Step::Call(Pid(9), Call::Kill(3, 10));
-    let named = footprint(machine.parts(), machine.marks(), &[], &missing);
+    let named = named_by(&machine, &Step::Call(Pid(9), Call::Kill(3, 10)));
     assert!(rt; named.has(Object::Proc(Pid(9))) && !named.has(Object::Proc(Pid(3))));
-    let abort = Step::KernelAbort(Pid(2));
-    assert!(rt; footprint(machine.parts(), machine.marks(), &[], &abort).is_empty());
+    assert!(rt; named_by(&machine, &Step::KernelAbort(Pid(2))).is_empty());
     Ok(())
 }

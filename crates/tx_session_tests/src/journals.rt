@@ -87,13 +87,22 @@ fn says_both_ways(alloc: Global, session: &mut Session, wanted: &str) -> Result<
     Ok(anew && says_after_a_walk(alloc, session, wanted)?)
 }
 
+/// Whether a session says that, before it is walked over and after.
+fn says_throughout(alloc: Global, session: &mut Session, wanted: &str) -> Result<bool, Fail> {
+    Ok(says(alloc, session, wanted)? && says_both_ways(alloc, session, wanted)?)
+}
+
 /// Whether a session of the schedule says what its run says, before it is walked over and after.
 fn are_alike(alloc: Global, text: &str) -> Result<bool, Fail> {
     let schedule = read_schedule(alloc, text.as_bytes())?;
     let wanted = run_report(alloc, &schedule)?;
+    is_said(alloc, &schedule, wanted.as_str())
+}
+
+/// Whether a session of the schedule says that, before it is walked over and after.
+fn is_said(alloc: Global, schedule: &Schedule, wanted: &str) -> Result<bool, Fail> {
     let mut session = session_of(alloc, schedule.header, schedule.steps.as_slice())?;
-    let made = says(alloc, &session, wanted.as_str())?;
-    Ok(made && says_both_ways(alloc, &mut session, wanted.as_str())?)
+    says_throughout(alloc, &mut session, wanted)
 }
 
 #[test]
@@ -107,11 +116,15 @@ fn a_journal_is_the_history_of_a_run(rt: HostRuntime) -> Result<(), Fail> {
 /// Process 2 began a transaction and mapped a page.
 const BEGUN: &str = "txos 1 schedule 2\n2 sys_xbegin\n2 map 0\n";
 
+/// Makes room for three steps. Whether the session still has its two.
+fn makes_room(session: &mut Session) -> bool {
+    session.reserve(3).is_ok() && session.len() == 2 && session.position() == 2
+}
+
 #[test]
 fn room_is_made_for_steps(rt: HostRuntime) -> Result<(), Fail> {
     let mut session = session_after(rt.alloc(), BEGUN)?;
-    session.reserve(3)?;
-    assert!(rt; session.len() == 2 && session.position() == 2);
+    assert!(rt; makes_room(&mut session));
     Ok(())
 }
 

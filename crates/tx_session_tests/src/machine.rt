@@ -28,12 +28,26 @@ fn all_are_undone(alloc: Global, machine: &mut Machine, steps: &[Step]) -> Resul
     Ok(true)
 }
 
-/// Whether that is so from three processes on, and the text ends with the state that is left.
+/// Whether the text ends with the machine's state.
+fn has_state(alloc: Global, machine: &Machine, text: &str) -> Result<bool, NoMemory> {
+    let state = print_state(alloc, machine)?;
+    Ok(text.ends_with(state.as_str()))
+}
+
+/// Whether that is so on this machine, and the text ends with the state that is left.
+fn are_undone_on(
+    alloc: Global,
+    machine: &mut Machine,
+    steps: &[Step],
+    wanted: &str,
+) -> Result<bool, NoMemory> {
+    Ok(all_are_undone(alloc, machine, steps)? && has_state(alloc, machine, wanted)?)
+}
+
+/// Whether that is so from three processes on.
 fn are_undone(alloc: Global, steps: &[Step], wanted: &str) -> Result<bool, NoMemory> {
     let mut machine = Machine::boot(alloc, 3)?;
-    let undone = all_are_undone(alloc, &mut machine, steps)?;
-    let state = print_state(alloc, &machine)?;
-    Ok(undone && wanted.ends_with(state.as_str()))
+    are_undone_on(alloc, &mut machine, steps, wanted)
 }
 
 #[test]
