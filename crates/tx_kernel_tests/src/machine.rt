@@ -23,8 +23,10 @@ fn is_aborted_and_back(machine: &mut Machine) -> bool {
         return false;
     };
     let is_gone = machine.txn_of(Pid(2)).is_none() && machine.marks().get(Pid(2)).is_none();
+    let none_left = machine.live_count() == 0;
     machine.undo(inverse);
-    is_gone && machine.txn_of(Pid(2)) == Some(Pid(2)) && machine.held(Pid(2)).is_empty()
+    let is_back = machine.txn_of(Pid(2)) == Some(Pid(2)) && machine.held(Pid(2)).is_empty();
+    is_gone && none_left && is_back && machine.live_count() == 1
 }
 
 #[test]

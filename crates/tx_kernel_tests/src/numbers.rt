@@ -21,7 +21,11 @@ fn errors_have_the_numbers_of_linux(rt: HostRuntime) {
         (Errno::TooManyDescriptors, 24),
         (Errno::BrokenPipe, 32),
     ] {
-        assert!(rt; error.number() == number, "the error of number {number}");
+        let is_answered = error.answer() == -i64::from(number);
+        assert!(rt;
+            error.number() == number && is_answered,
+            "the error of number {number}"
+        );
     }
 }
 
