@@ -177,6 +177,11 @@ pub record HasPosts (k : Content) (count : ℕ) (txn : Txn) : Type 0 where
   pub changes : AreNamed k.parts (post_changes txn.outbox.posts)
   pub starters : HaveStarters k.txns txn.outbox.sendings txn.outbox.posts
 
+-- an inverse of a step outside that has nothing yet
+abbrev pub IsFresh : Inverse → Type 0
+IsFresh (Outside log post) = log ≡ []
+IsFresh inverse = ⊥
+
 -- the inverse leads the content back to what it was before the step
 abbrev pub Undoes : Content → Inverse → Content → Type 0
 Undoes k (Outside log post) old = before_outside k log post ≡ old

@@ -16,12 +16,12 @@ ghost use Rattle.tx_txn.specs.Content.{IsKept};
 use crate::content::{BoxedTxn, Content};
 use crate::inverse::Inverse;
 use crate::laws::laws;
-use crate::planning::plan;
+use crate::planning::{Runner, plan};
 use crate::table::TxnTable;
 use std::alloc::Global;
 use tx_base::{Mark, NoMemory, Pid};
 use tx_change::Parts;
-use tx_kernel::Act;
+use tx_kernel::{Act, Sends};
 use tx_reserve::{Object, Objects, Reservations};
 use tx_txn::Txn;
 
@@ -81,9 +81,18 @@ fn begun(
 {
     let proc = parts.proc(pid).unwrap();
     let mut boxed = txns.fresh(alloc, pid, defers, proc)?;
+    let runner = Runner { pid, inside: None };
     let answer = Act::Answer(0);
-    match plan(alloc, parts, pid, None, &answer, &mut boxed.txn.log) {
-        Ok(_planned) => Ok(boxed),
+    let mut sends = Sends::Nothing;
+    match plan(
+        alloc,
+        parts,
+        runner,
+        &answer,
+        &mut boxed.txn.log,
+        &mut sends,
+    ) {
+        Ok(_outcome) => Ok(boxed),
         Err(_memory) => Err(NoMemory),
     }
 }

@@ -14,7 +14,7 @@ use crate::inverse::Inverse;
 use crate::laws::laws;
 use crate::marking::{Member, mark_progress};
 use crate::member_step::MemberStep;
-use crate::planning::plan;
+use crate::planning::{Runner, plan};
 use std::alloc::Global;
 use tx_base::{Mark, NoMemory, Pid, Refusal, Slots};
 use tx_change::Parts;
@@ -102,13 +102,18 @@ pub(crate) fn make_in(
     let inside = txn.inside(marks);
     txn.log.settle()?;
     let from = txn.log.len();
-    let planned = plan(alloc, parts, pid, Some(inside), act, &mut txn.log)?;
-    let Ok(()) = hold_sends(&mut txn.outbox, &planned.sends) else {
+    let runner = Runner {
+        pid,
+        inside: Some(inside),
+    };
+    let mut sends = Sends::Nothing;
+    let outcome = plan(alloc, parts, runner, act, &mut txn.log, &mut sends)?;
+    let Ok(()) = hold_sends(&mut txn.outbox, &sends) else {
         txn.log.truncate(from);
         return Err(Refusal::NoMemory);
     };
     txn.log.make_from(parts, from);
-    Ok(planned)
+    Ok(Planned { outcome, sends })
 }
 
 /// Holds what a step hands out. If memory is refused, the outbox is as it was.

@@ -4,6 +4,7 @@ ghost use Rattle.tx_base.specs.Slots.{slot_at};
 ghost use Rattle.tx_kernel.specs.Actors.{IsWhole};
 ghost use Rattle.tx_kernel.specs.Acts.{event_of};
 ghost use Rattle.tx_content.specs.Content.{content_of, IsShaped};
+ghost use Rattle.tx_content.specs.Inverses.{IsFresh};
 ghost use Rattle.tx_content.specs.Made.{Answers, IsMade, IsRunning, IsUnowned, RefusesStep};
 ghost use Rattle.tx_model.specs.Membership.{Outside};
 ghost use Rattle.tx_txn.specs.Content.{IsKept};
@@ -12,11 +13,11 @@ use crate::content::Content;
 use crate::inverse::Inverse;
 use crate::kept_posts::{KeptPost, post_sends};
 use crate::laws::laws;
-use crate::planning::plan;
+use crate::planning::{Runner, plan};
 use std::alloc::Global;
 use tx_base::{Pid, Refusal};
 use tx_change::Log;
-use tx_kernel::{Act, Outcome};
+use tx_kernel::{Act, Outcome, Sends};
 
 impl Content {
     /// Makes the act of a process that runs and is in no transaction. Answers its outcome, and puts
@@ -43,22 +44,27 @@ impl Content {
         ensures refused { IfErr result (RefusesStep self.old (event_of None pid act.now)) }
         ensures err { OnErr result (self.new ≡ self.old) }
     {
-        if let Inverse::Outside { log, post } = inverse {
+        self.put_fresh(alloc, inverse);
+        let Inverse::Outside { log, post } = inverse else {
+            unreachable!();
+        };
+        self.make_logged(alloc, pid, act, log, post)
+    }
+
+    /// Puts an inverse of a step outside with an empty log into a place: with the room of the log
+    /// that is there, or else with that of an earlier one, if some was kept. It takes no memory, and
+    /// the content stays as it is.
+    #[inline(always)] // each step outside puts one
+    fn put_fresh(&mut self, alloc: Global, place: &mut Inverse)
+        ensures content { self.new ≡ self.old }
+        ensures fresh { IsFresh place.new }
+    {
+        if let Inverse::Outside { log, .. } = place {
             log.truncate(0);
-            return self.make_logged(alloc, pid, act, log, post);
+            return;
         }
-        let mut log = self.txns.fresh_log(alloc);
-        let mut post = None;
-        match self.make_logged(alloc, pid, act, &mut log, &mut post) {
-            Ok(outcome) => {
-                self.put_inverse(inverse, Inverse::Outside { log, post });
-                Ok(outcome)
-            }
-            Err(why) => {
-                self.txns.keep_log(log);
-                Err(why)
-            }
-        }
+        let log = self.txns.fresh_log(alloc);
+        self.put_inverse(place, Inverse::Outside { log, post: None });
     }
 
     /// Makes the act of a process that runs and is in no transaction, with an empty log. Puts the
@@ -88,9 +94,11 @@ impl Content {
         ensures err { OnErr result (self.new ≡ self.old) }
     {
         laws();
-        let planned = plan(alloc, &self.parts, pid, None, act, log)?;
+        let mut sends = Sends::Nothing;
+        let runner = Runner { pid, inside: None };
+        let outcome = plan(alloc, &self.parts, runner, act, log, &mut sends)?;
         log.lead_forward(&mut self.parts);
-        *post = post_sends(&mut self.txns, &planned.sends);
-        Ok(planned.outcome)
+        *post = post_sends(&mut self.txns, &sends);
+        Ok(outcome)
     }
 }

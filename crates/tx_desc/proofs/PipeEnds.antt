@@ -1,8 +1,9 @@
 -- The ends of a pipe among the descriptions.
-use Rattle.std.proofs.Common.{◌≡◌, ℕ, zero, suc, ◌+◌, ◌<◌, ◌≤◌, Bool, true, false, List, Option, Some, None, if◌then◌else◌, nat_lt, count_by, get_or, length, take, refl, sym, ap, ◌∙◌, arith, inl, inr}
+use Rattle.std.proofs.Common.{◌≡◌, ℕ, zero, suc, ◌+◌, ◌-◌, ◌<◌, ◌≤◌, Bool, true, false, List, Option, Some, None, if◌then◌else◌, nat_lt, count_by, get_or, length, take, refl, sym, ap, ◌∙◌, arith, inl, inr}
 use Rattle.std.proofs.lemmas.Bool.{cases_Bool, lt-ltb}
-use Rattle.std.proofs.lemmas.List.{take_all}
-use Rattle.std.proofs.lemmas.List.Sums.{count_by_more_yes, count_by_more_no}
+use Rattle.std.proofs.lemmas.List.{length-set, take_all}
+use Rattle.std.proofs.lemmas.List.Sums.{count_by_more_yes, count_by_more_no, sum_by-set}
+use Rattle.std.proofs.Math.ListN.{set}
 use Rattle.tx_model.specs.State.{Side as End, ReadSide, WriteSide, Description, State, side_in}
 use Rattle.tx_model.specs.Descriptors.{is_side, has_description, some_below}
 use Rattle.tx_model.specs.Words.{has_side_below}
@@ -11,7 +12,7 @@ use Rattle.tx_desc.specs.declared.opened.Side.{Side}
 use Rattle.tx_desc.specs.declared.opened.Side.TheVariants.{Read, Write}
 use Rattle.tx_desc.specs.declared.opened.Opened.{Opened}
 use Rattle.tx_desc.specs.Descriptions.{HasDescs, has_side, side_test, is_end_of}
-use Rattle.tx_desc.specs.EndCounts.{IsCounted, count_at}
+use Rattle.tx_desc.specs.EndCounts.{IsCounted, count_at, one_of}
 
 or_right : (a b : Bool) → b ≡ true → (if a then true else b) ≡ true
 or_right true b h = refl
@@ -46,17 +47,31 @@ counted_within test P D sized same =
     let all = take_all 64 D (omega arith) in
     counted_below test P D 64 (omega arith) same ∙ ap (λ (xs : List (Option Opened)). nat_lt 0 (count_by test xs)) all
 
--- a side of the pipe is there exactly where its count is above 0
-pub end_there : (side : Side) (k : ℕ) (S : State) (D : List (Option Opened)) (counts : List ℕ) → k < 256 → IsCounted D counts → HasDescs S D →
-    nat_lt 0 (count_at side k counts) ≡ has_side side k S
-end_there side k S D counts small is has = ap (nat_lt 0) (is.each side k small) ∙ sym (by side)
+-- a side of the pipe is there exactly where some place has it
+side_counted : (side : Side) (k : ℕ) (S : State) (D : List (Option Opened)) → length D ≡ 64 → HasDescs S D →
+    nat_lt 0 (count_by (is_end_of side k) D) ≡ has_side side k S
+side_counted side k S D sized has = sym (by side)
   where
     at_place : (side : Side) (d : ℕ) → is_side (side_test side) (side_in k (S.descs d)) ≡ is_end_of side k (get_or D d None)
     at_place side d = ap (λ (x : Option Description). is_side (side_test side) (side_in k x)) (has d)
 
     by : (side : Side) → has_side side k S ≡ nat_lt 0 (count_by (is_end_of side k) D)
-    by Read = counted_within (is_end_of Read k) (λ d. is_side is_read_side (side_in k (S.descs d))) D is.sized (at_place Read)
-    by Write = counted_within (is_end_of Write k) (λ d. is_side is_write_side (side_in k (S.descs d))) D is.sized (at_place Write)
+    by Read = counted_within (is_end_of Read k) (λ d. is_side is_read_side (side_in k (S.descs d))) D sized (at_place Read)
+    by Write = counted_within (is_end_of Write k) (λ d. is_side is_write_side (side_in k (S.descs d))) D sized (at_place Write)
+
+-- a side of the pipe is there exactly where its count is above 0
+pub end_there : (side : Side) (k : ℕ) (S : State) (D : List (Option Opened)) (counts : List ℕ) → k < 256 → IsCounted D counts → HasDescs S D →
+    nat_lt 0 (count_at side k counts) ≡ has_side side k S
+end_there side k S D counts small is has = ap (nat_lt 0) (is.each side k small) ∙ side_counted side k S D is.sized has
+
+-- the same once a place has something else
+pub end_instead : (side : Side) (k d : ℕ) (new : Option Opened) (S : State) (D : List (Option Opened)) (counts : List ℕ) →
+    k < 256 → d < 64 → IsCounted D counts → HasDescs S (set D d new) →
+    nat_lt 0 (count_at side k counts + one_of side k new - one_of side k (get_or D d None)) ≡ has_side side k S
+end_instead side k d new S D counts small inside is has =
+    let before = is.each side k small in
+    let moved = sum_by-set (one_of side k) D d new None (rw is.sized inside) in
+    ap (nat_lt 0) (omega arith) ∙ side_counted side k S (set D d new) (length-set D d new ∙ is.sized) has
 
 either : (x : Option End) → (if is_side is_read_side x then true else is_side is_write_side x) ≡ is_side (λ (side : End). true) x
 either None = refl

@@ -76,6 +76,33 @@ impl Descs {
         self.has_end(pipe, Side::Read) || self.has_end(pipe, Side::Write)
     }
 
+    /// Whether a description of either side of the pipe is there once planned ones are in place.
+    /// Each number must be 0 to 63.
+    pub fn names_pipe_with(&self, news: &[NewDesc], pipe: PipeNo) -> bool
+        requires { AreNumbers news.now }
+        ensures { (S : State) → HasDescs S (put_descs news.now self.now) →
+            result ≡ has_description pipe.0 S }
+    {
+        match news {
+            // The table is large, and most often one description is planned.
+            [new] => {
+                self.has_end_with(*new, pipe, Side::Read)
+                    || self.has_end_with(*new, pipe, Side::Write)
+            }
+            _ => self.with(news).names_pipe(pipe),
+        }
+    }
+
+    /// Whether a description of this side of the pipe is there once a planned one is in place.
+    fn has_end_with(&self, new: NewDesc, pipe: PipeNo, side: Side) -> bool
+        requires { new.number.0 < 64 }
+        ensures { (S : State) → HasDescs S (put_descs (new ∷ []) self.now) →
+            result ≡ has_side side pipe.0 S }
+    {
+        let old = self.get(new.number);
+        self.ends.has_instead(old, new.opened, pipe, side)
+    }
+
     /// These with planned descriptions put in place. Each number must be 0 to 63.
     pub fn with(&self, news: &[NewDesc]) -> Descs
         requires { AreNumbers news.now }

@@ -1,6 +1,7 @@
 //! How many descriptions each side of each pipe has.
-ghost use Rattle.std.specs.Prelude.{◌≡◌, ◌<◌, None, nat_lt, replicate};
-ghost use Rattle.tx_desc.specs.EndCounts.{HasOne, Recounts, count_at, end_number};
+ghost use Rattle.std.specs.Prelude.{◌≡◌, ◌+◌, ◌-◌, ◌<◌, None, nat_lt, replicate};
+ghost use Rattle.tx_desc.specs.Descriptions.{is_end_of};
+ghost use Rattle.tx_desc.specs.EndCounts.{HasOne, Recounts, count_at, end_number, one_of};
 
 use crate::opened::{Opened, Side};
 use std::marker::Model;
@@ -41,6 +42,24 @@ impl EndCounts {
         self.counts[end_number(pipe, side)] > 0
     }
 
+    /// Whether a description of this side of the pipe is there once what the one place has, if
+    /// anything, is replaced by what the other has.
+    pub(crate) fn has_instead(
+        &self,
+        old: Option<Opened>,
+        new: Option<Opened>,
+        pipe: PipeNo,
+        side: Side,
+    ) -> bool
+        ensures { result ≡ nat_lt 0
+            (count_at side pipe.0 self.now + one_of side pipe.0 new - one_of side pipe.0 old) }
+    {
+        let count = self.counts[end_number(pipe, side)] as usize;
+        let lost = is_end(old, pipe, side) as usize;
+        let gained = is_end(new, pipe, side) as usize;
+        count + gained > lost
+    }
+
     /// An equal value.
     pub(crate) fn copy(&self) -> EndCounts
         ensures { result ≡ self.now }
@@ -77,6 +96,16 @@ impl EndCounts {
         if let Some(opened) = place {
             self.counts[end_number(opened.desc.pipe, opened.desc.side)] += 1;
         }
+    }
+}
+
+/// Whether a place has a description of this side of the pipe.
+fn is_end(place: Option<Opened>, pipe: PipeNo, side: Side) -> bool
+    ensures { result ≡ is_end_of side pipe.0 place }
+{
+    match place {
+        Some(opened) => end_number(opened.desc.pipe, opened.desc.side) == end_number(pipe, side),
+        None => false,
     }
 }
 

@@ -19,6 +19,7 @@ use Rattle.tx_kernel.specs.Plans.{AreAmong, ChoosesBadly, IsBadChoice, IsRefused
 use Rattle.tx_kernel.specs.Steps.{target_objects, GivesStep, PlansStep}
 use Rattle.tx_kernel.specs.declared.actor.Actor.{Actor}
 use Rattle.tx_kernel.specs.declared.planned.Outcome.{Outcome}
+use Rattle.tx_kernel.specs.declared.planned.Sends.{Sends}
 use Rattle.tx_kernel.specs.declared.planned.Sends.TheVariants.{Nothing}
 use Rattle.tx_kernel.specs.declared.planned.Planned.{Planned}
 use Rattle.tx_kernel.specs.declared.inside.Inside.{Inside}
@@ -120,22 +121,22 @@ refuses_event actor page step of is why (inr refused) = inr (λ held counted.
     of.rule (inside_of actor.inside) actor.pid S ∙ runs_as (inside_of actor.inside) actor.pid.0 page S (me_of actor) (ap process_in is.there) is.runs ∙ refused held counted)
 
 -- the same of what the plan answers
-pub plans_as : (actor : Actor) (page : Page) (step : Pid → Step) → IsOfPage page step → (log now : List Change) → IsActor actor → (r : Result Planned Refusal) →
-    IfOk r (λ planned. PlansStep actor log now planned.outcome planned.sends (effect_by actor page.outcome) (names_by actor page.names)) →
-    IfOk r (λ planned. PlansEvent actor log now planned (Do (step actor.pid) (inside_of actor.inside)))
-plans_as actor page step of log now is (Ok planned) plans = plans_event actor page step of log now planned is plans
-plans_as actor page step of log now is (Err why) plans = tt
+pub plans_as : (actor : Actor) (page : Page) (step : Pid → Step) → IsOfPage page step → (log now : List Change) (sends : Sends) → IsActor actor → (r : Result Outcome Refusal) →
+    IfOk r (λ outcome. PlansStep actor log now outcome sends (effect_by actor page.outcome) (names_by actor page.names)) →
+    IfOk r (λ outcome. PlansEvent actor log now (record { outcome = outcome; sends = sends }) (Do (step actor.pid) (inside_of actor.inside)))
+plans_as actor page step of log now sends is (Ok outcome) plans = plans_event actor page step of log now (record { outcome = outcome; sends = sends }) is plans
+plans_as actor page step of log now sends is (Err why) plans = tt
 
-pub refuses_as : (actor : Actor) (page : Page) (step : Pid → Step) → IsOfPage page step → IsActor actor → (choice : Choice) (r : Result Planned Refusal) →
+pub refuses_as : (actor : Actor) (page : Page) (step : Pid → Step) → IsOfPage page step → IsActor actor → (choice : Choice) (r : Result Outcome Refusal) →
     IfErr r (λ why. RefusedBy actor why (effect_by actor page.outcome) ⊎ IsBadChoice actor why choice) →
     IfErr r (λ why. IsRefused actor.parts.now actor.inside why (effect (Do (step actor.pid) (inside_of actor.inside))) ⊎ ChoosesBadly actor.parts.now why choice)
-refuses_as actor page step of is choice (Ok planned) refused = tt
+refuses_as actor page step of is choice (Ok outcome) refused = tt
 refuses_as actor page step of is choice (Err why) (inl refused) = inl (refuses_event actor page step of is why refused)
 refuses_as actor page step of is choice (Err why) (inr bad) = inr bad
 
-pub refuses_delivery : (actor : Actor) (signo : Signo) → IsActor actor → (r : Result Planned Refusal) → IfErr r (λ why. RefusedBy actor why (effect_by actor (delivery signo.0))) →
+pub refuses_delivery : (actor : Actor) (signo : Signo) → IsActor actor → (r : Result Outcome Refusal) → IfErr r (λ why. RefusedBy actor why (effect_by actor (delivery signo.0))) →
     IfErr r (λ why. IsRefused actor.parts.now actor.inside why (effect (Do (Deliver actor.pid signo) (inside_of actor.inside))) ⊎ ChoosesBadly actor.parts.now why ChoosesNothing)
-refuses_delivery actor signo is (Ok planned) refused = tt
+refuses_delivery actor signo is (Ok outcome) refused = tt
 refuses_delivery actor signo is (Err why) refused = inl (refuses_event actor (delivery_page signo.0) (λ pid. Deliver pid signo) (of_delivery signo) is why refused)
 
 -- an answer is planned as the note of it

@@ -48,6 +48,7 @@ use Rattle.tx_kernel.specs.Laws.{PlanLaws}
 use Rattle.tx_kernel.specs.Own.{answer_after}
 use Rattle.tx_kernel.specs.Plans.{Plans, AreAmong, quiet}
 use Rattle.tx_kernel.specs.declared.actor.Actor.{Actor}
+use Rattle.tx_kernel.specs.declared.planned.Outcome.{Outcome}
 use Rattle.tx_kernel.specs.declared.planned.Outcome.TheVariants.{Done}
 use Rattle.tx_kernel.specs.declared.planned.Planned.{Planned}
 use Rattle.tx_kernel.proofs.OwnPlans.{held_quiet}
@@ -74,19 +75,19 @@ same_rule actor before now planned rule other objects same plans = record {
 }
 
 -- an answer alone, where the rule is that answer
-pub done_plan : {E : Type 0} (result : Result Planned E) (actor : Actor) (before now : List Change) (r : ℤ) (rule : State → Effect) (objects : State → List Object) →
+pub done_plan : {E : Type 0} (result : Result Outcome E) (actor : Actor) (before now : List Change) (r : ℤ) (rule : State → Effect) (objects : State → List Object) →
     ((held : ℕ → List Sending) → rule (state_of held actor.parts.now) ≡ answer_effect actor.pid.0 r (me_of actor)) →
-    IfOk result (λ planned. (os : State → List Object) → Plans actor before now planned (λ S. answer_effect actor.pid.0 r (me_of actor)) os) →
-    IfOk result (λ planned. Plans actor before now planned rule objects)
-done_plan {E} (Ok planned) actor before now r rule objects same plans =
-    same_rule actor before now planned (λ S. answer_effect actor.pid.0 r (me_of actor)) rule objects (λ held counted. sym (same held)) (plans objects)
+    IfOk result (λ outcome. (os : State → List Object) → Plans actor before now (quiet outcome) (λ S. answer_effect actor.pid.0 r (me_of actor)) os) →
+    IfOk result (λ outcome. Plans actor before now (quiet outcome) rule objects)
+done_plan {E} (Ok outcome) actor before now r rule objects same plans =
+    same_rule actor before now (quiet outcome) (λ S. answer_effect actor.pid.0 r (me_of actor)) rule objects (λ held counted. sym (same held)) (plans objects)
 done_plan {E} (Err why) actor before now r rule objects same plans = tt
 
 -- an error alone, where it is the rule's
-pub failed_plan : {E : Type 0} (result : Result Planned E) (actor : Actor) (before now : List Change) (errno : Errno) (rule : Rule) (names : Caller → List Object) →
+pub failed_plan : {E : Type 0} (result : Result Outcome E) (actor : Actor) (before now : List Change) (errno : Errno) (rule : Rule) (names : Caller → List Object) →
     ((held : ℕ → List Sending) → rule (caller_of actor (state_of held actor.parts.now)) ≡ fails errno) →
-    IfOk result (λ planned. (os : State → List Object) → Plans actor before now planned (λ S. answer_effect actor.pid.0 (error_answer errno) (me_of actor)) os) →
-    IfOk result (λ planned. Plans actor before now planned (effect_by actor rule) (names_by actor names))
+    IfOk result (λ outcome. (os : State → List Object) → Plans actor before now (quiet outcome) (λ S. answer_effect actor.pid.0 (error_answer errno) (me_of actor)) os) →
+    IfOk result (λ outcome. Plans actor before now (quiet outcome) (effect_by actor rule) (names_by actor names))
 failed_plan result actor before now errno rule names same plans =
     done_plan result actor before now (error_answer errno) (effect_by actor rule) (names_by actor names) (λ held. ap (effect_of actor.pid.0 (me_of actor)) (same held)) plans
 

@@ -8,7 +8,7 @@ use Rattle.tx_base.specs.declared.names.Pid.{Pid}
 use Rattle.tx_change.specs.Exchange.{parts_after, sizes_of, IsPid}
 use Rattle.tx_change.specs.declared.change.Change.TheVariants.{Part as SetPart}
 use Rattle.tx_change.specs.declared.parts.Parts.{Parts}
-use Rattle.tx_kernel.specs.PostFacts.{but_none, same_slot}
+use Rattle.tx_kernel.specs.PostFacts.{same_slot}
 use Rattle.tx_kernel.specs.Posts.{IsButPending, IsOfPending, PlansAt}
 use Rattle.tx_model.specs.State.{Sending}
 use Rattle.tx_proc.specs.Parts.{edited_once, queue_swapped, with_pending}

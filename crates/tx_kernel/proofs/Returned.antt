@@ -32,19 +32,25 @@ use Rattle.tx_proc.specs.declared.proc.Part.TheVariants.{Register, Answer as Set
 pub sized_actor : (actor : Actor) → IsActor actor → IsSized actor.proc.now
 sized_actor actor is = subst HasPlaces is.there (is.whole.places actor.pid.0)
 
+-- the first n slots of one list and the rest of another, of which one more is of the first
+next_seam : (slots old : List ℤ) (n : ℕ) (value : ℤ) → n < length slots → value ≡ slice_index_or slots n (pos 0) →
+    take n slots ++ value ∷ drop (suc n) old ≡ take (n + 1) slots ++ drop (n + 1) old
+next_seam slots old n value there is =
+    let one : suc n ≡ n + 1 = omega arith in
+    ap (λ (v : ℤ). take n slots ++ v ∷ drop (suc n) old) is
+    ∙ sym (append_assoc (take n slots) (slice_index_or slots n (pos 0) ∷ []) (drop (suc n) old))
+    ∙ ap (λ (front : List ℤ). front ++ drop (suc n) old) (sym (take-suc slots n (pos 0) there))
+    ∙ ap (λ (k : ℕ). take k slots ++ drop k old) one
+
 -- one slot more
 put_next : (slots old : List ℤ) (n : ℕ) (value : ℤ) → n < length slots → n < length old → value ≡ slice_index_or slots n (pos 0) →
     slice_set (take n slots ++ drop n old) n value ≡ take (n + 1) slots ++ drop (n + 1) old
 put_next slots old n value there room is =
-    let one : suc n ≡ n + 1 = omega arith in
     let long : length (take n slots) ≡ n = length-take-le n slots (omega (arith, there)) in
     ap (λ (rest : List ℤ). slice_set (take n slots ++ rest) n value) (drop-cons old n (pos 0) room)
     ∙ ap (λ (k : ℕ). slice_set (take n slots ++ slice_index_or old n (pos 0) ∷ drop (suc n) old) k value) (sym long)
     ∙ set-append_seam (take n slots) (slice_index_or old n (pos 0)) (drop (suc n) old) value
-    ∙ ap (λ (v : ℤ). take n slots ++ v ∷ drop (suc n) old) is
-    ∙ sym (append_assoc (take n slots) (slice_index_or slots n (pos 0) ∷ []) (drop (suc n) old))
-    ∙ ap (λ (front : List ℤ). front ++ drop (suc n) old) (sym (take-suc slots n (pos 0) there))
-    ∙ ap (λ (k : ℕ). take k slots ++ drop k old) one
+    ∙ next_seam slots old n value there is
 
 pub slots_more : (actor : Actor) (before between now : List Change) (slots : List ℤ) (n : ℕ) (value : ℤ) → IsActor actor → SlotsPut actor before between slots n →
     length slots ≡ 8 → n < 8 → value ≡ slice_index_or slots n (pos 0) → now ≡ between ++ SetPart actor.pid (Register (record { number = n; value = value })) ∷ [] →
@@ -60,6 +66,24 @@ slots_more actor before between now slots n value is put long low same last =
         nameless = more.nameless;
         process = more.process
             ∙ ap (λ (xs : List ℤ). with_slots xs (me_of actor)) (put_next slots old n value (subst (λ (k : ℕ). n < k) (sym long) low) (subst (λ (k : ℕ). n < k) (sym (sized_actor actor is).slots) low) same);
+      };
+    }
+
+-- a slot that has its value already
+pub slots_same : (actor : Actor) (before now : List Change) (slots : List ℤ) (n : ℕ) → IsActor actor → SlotsPut actor before now slots n → length slots ≡ 8 → n < 8 →
+    slice_index_or actor.proc.now.regs.slots n (pos 0) ≡ slice_index_or slots n (pos 0) → SlotsPut actor before now slots (n + 1)
+slots_same actor before now slots n is put long low same =
+    let old : List ℤ = actor.proc.now.regs.slots in
+    let there : n < length slots = subst (λ (k : ℕ). n < k) (sym long) low in
+    let room : n < length old = subst (λ (k : ℕ). n < k) (sym (sized_actor actor is).slots) low in
+    record {
+      plan = record {
+        plan = put.plan.plan;
+        added = put.plan.added;
+        own = put.plan.own;
+        nameless = put.plan.nameless;
+        process = put.plan.process
+            ∙ ap (λ (xs : List ℤ). with_slots xs (me_of actor)) (ap (λ (rest : List ℤ). take n slots ++ rest) (drop-cons old n (pos 0) room) ∙ next_seam slots old n (slice_index_or old n (pos 0)) there same);
       };
     }
 

@@ -9,6 +9,7 @@ use Rattle.tx_kernel.proofs.EndStates.{told_same, written-append}
 use Rattle.tx_kernel.proofs.OwnPlans.{held_quiet}
 use Rattle.tx_kernel.specs.Actors.{effect_by, inside_of, me_of, CountsHeld}
 use Rattle.tx_kernel.proofs.Sent.{same_held}
+use Rattle.tx_kernel.specs.Calls.{sends_nothing}
 use Rattle.tx_kernel.specs.Plans.{held_after, sending_of, sent_at_once}
 use Rattle.tx_kernel.specs.Piped.{broken_sending, writing_outcome}
 use Rattle.tx_kernel.specs.Sends.{IsSentBy, holds_more, sends_by, sent}
@@ -102,6 +103,18 @@ pub record SendsNothing (c : Call) : Type 0 where
   pub sigqueue : (x y z : ℤ) → c ≡ call.Sigqueue x y z → ⊥
   pub exit : (x : ℤ) → c ≡ call.Exit x → ⊥
   pub write : (x y z : ℤ) → c ≡ call.Write x y z → ⊥
+
+apart : {b : Bool} → b ≡ true → b ≡ false → ⊥
+apart {b} is other = cc
+
+-- such a call is none of the four that may send
+pub quiet_call_is : (called : Call) → sends_nothing called ≡ true → SendsNothing called
+quiet_call_is called quiet = record {
+  kill = λ x y e. apart quiet (ap sends_nothing e);
+  sigqueue = λ x y z e. apart quiet (ap sends_nothing e);
+  exit = λ x e. apart quiet (ap sends_nothing e);
+  write = λ x y z e. apart quiet (ap sends_nothing e);
+}
 
 -- what comes to this sends nothing
 abbrev IsSilentBy : Caller → Outcome → Type 0

@@ -1,5 +1,5 @@
 -- Plans of whole steps, of the plan of what they write and that of their post.
-use Rattle.std.proofs.Common.{◌≡◌, ◌<◌, ℕ, Bool, true, false, if◌then◌else◌, inl, inr, ℤ, eq-eqb, List, [], ◌∷◌, ◌++◌, option_map, Option, Some, None, Result, refl, ap, sym, subst, ◌∙◌, append_assoc}
+use Rattle.std.proofs.Common.{◌≡◌, ◌<◌, ℕ, Bool, true, false, if◌then◌else◌, inl, inr, ℤ, eq-eqb, List, [], ◌∷◌, ◌++◌, option_map, Option, Some, None, Result, Ok, Err, IfOk, refl, ap, sym, subst, ◌∙◌, append_assoc}
 use Rattle.tx_base.specs.Slots.{slot_at}
 use Rattle.tx_base.specs.declared.errors.Errno.{Errno}
 use Rattle.tx_base.specs.declared.names.Sending.{Sending as TheSending}
@@ -15,7 +15,7 @@ use Rattle.tx_change.specs.declared.parts.Parts.{Parts}
 use Rattle.tx_kernel.proofs.OwnPlans.{brings_append, own_named, own_brings, own_among}
 use Rattle.tx_kernel.specs.Actors.{effect_by, me_of, inside_of, CountsHeld, IsActor}
 use Rattle.tx_kernel.specs.Laws.{PlanLaws}
-use Rattle.tx_kernel.specs.Plans.{Plans, Gives, AreAmong, HasSignal, KeepsShown, conclusion_of, held_after, memory_in, reply_of, sending_of, sent_at_once}
+use Rattle.tx_kernel.specs.Plans.{Plans, Gives, AreAmong, HasSignal, KeepsShown, conclusion_of, held_after, memory_in, quiet, reply_of, sending_of, sent_at_once}
 use Rattle.tx_kernel.specs.Posts.{IsSeen, PlansPost}
 use Rattle.tx_kernel.specs.Steps.{PlansStep, target_objects}
 use Rattle.tx_kernel.specs.declared.actor.Actor.{Actor}
@@ -140,6 +140,12 @@ quiet_step actor before now outcome sends rule objects none plans = record {
   signal = quiet_signal sends none;
   among = λ held. among_front (TheProc actor.pid.0 ∷ objects (state_of held actor.parts.now)) (target_objects sends) plans.plan (plans.among held);
 }
+
+-- the same of what a plan of a call comes to that sends nothing
+pub quiet_call : {E : Type 0} (result : Result Outcome E) (actor : Actor) (before now : List Change) (rule : State → Effect) (objects : State → List Object) →
+    IfOk result (λ outcome. Plans actor before now (quiet outcome) rule objects) → IfOk result (λ outcome. PlansStep actor before now outcome Nothing rule objects)
+quiet_call {E} (Ok outcome) actor before now rule objects plans = quiet_step actor before now outcome Nothing rule objects refl plans
+quiet_call {E} (Err why) actor before now rule objects plans = tt
 
 -- a post leaves what its target has but for the pending signals
 abbrev pub calmed : Process → Process

@@ -3,8 +3,10 @@ use Rattle.std.specs.Prelude.{Bool, true, false}
 use Rattle.tx_base.specs.declared.steps.Call.{Call}
 use Rattle.tx_base.specs.declared.steps.Call.TheVariants as call
 
--- it sends a signal on demand
-abbrev pub sends_on_demand : Call → Bool
-sends_on_demand (call.Kill target signo) = true
-sends_on_demand (call.Sigqueue target signo value) = true
-sends_on_demand c = false
+-- it sends no signal, whatever it is answered
+abbrev pub sends_nothing : Call → Bool
+sends_nothing (call.Kill target signo) = false
+sends_nothing (call.Sigqueue target signo value) = false
+sends_nothing (call.Exit status) = false
+sends_nothing (call.Write fd address count) = false
+sends_nothing c = true

@@ -1,11 +1,15 @@
 -- The laws that the proofs of plans use, and those of their states.
-use Rattle.std.specs.Prelude.{◌≡◌, ◌≤◌, ℕ, []}
+use Rattle.std.specs.Prelude.{◌≡◌, ◌≤◌, ℕ, [], Option, true}
+use Rattle.tx_base.specs.declared.steps.Call.{Call}
 use Rattle.tx_change.specs.Counts.{CountsAgree}
 use Rattle.tx_change.specs.Laws.{HaveAllPlaces}
 use Rattle.tx_change.specs.States.{state_of}
 use Rattle.tx_change.specs.declared.parts.Parts.{Parts}
 use Rattle.tx_kernel.specs.Actors.{IsWhole}
-use Rattle.tx_model.specs.State.{boot_state}
+use Rattle.tx_kernel.specs.Calls.{sends_nothing}
+use Rattle.tx_model.specs.Effects.{Inside}
+use Rattle.tx_model.specs.State.{Process, State, boot_state}
+use Rattle.tx_model.specs.Words.{call_effect}
 use Rattle.tx_change.specs.Counts.{CountsElsewhere, CountsNameless, CountsPlanned, CountsReplaced, CountsWithOthers, PlansAreNamed, RoomForName, RoomForNames, SlotInTurn}
 use Rattle.tx_change.specs.Laws.{AppliedAppended, ApplyThenRevert, BackIsWrite, ChangedAppended, ChangesStateInTurn, ExchangedBring, ExchangedStayNamed, ExchangesBack, FrontIsRead, NamedAppended, PartsReplaceProcess, PlacesStay, SizesStay}
 
@@ -38,3 +42,7 @@ pub record PlanLaws : Type 0 where
 abbrev pub BootedAreWhole : Type 0
 BootedAreWhole = (width count : ℕ) (parts : Parts) → 1 ≤ count → count ≤ width → width ≤ 256 → state_of (λ starter. []) parts ≡ boot_state width count → HaveAllPlaces parts → CountsAgree parts →
     IsWhole parts
+
+-- a call other than a kill, a sigqueue, an exit and a write sends nothing
+abbrev pub QuietCallsSendNothing : Type 0
+QuietCallsSendNothing = (inside : Option Inside) (p : ℕ) (called : Call) (me : Process) (S : State) → sends_nothing called ≡ true → (call_effect inside p called me S).sends ≡ []

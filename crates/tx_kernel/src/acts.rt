@@ -12,7 +12,7 @@ ghost use Rattle.tx_model.specs.Deliveries.{delivery_page};
 use crate::actor::Actor;
 use crate::inside::Inside;
 use crate::laws::laws;
-use crate::planned::Planned;
+use crate::planned::{Planned, Sends};
 use std::alloc::Global;
 use tx_base::{Call, NoMemory, Pid, Refusal, Signo};
 use tx_change::{Log, Parts, appended};
@@ -46,9 +46,10 @@ pub fn act(
     appended();
     well_formed();
     let from = log.len();
-    let planned = Actor::at(parts, pid, inside)?.plan_call(alloc, call, log)?;
+    let mut sends = Sends::Nothing;
+    let outcome = Actor::at(parts, pid, inside)?.plan_call(alloc, call, log, &mut sends)?;
     log.make_from(parts, from);
-    Ok(planned)
+    Ok(Planned { outcome, sends })
 }
 
 /// Delivers a pending signal to a process, with its post, and appends to the log what leads back.
@@ -77,7 +78,8 @@ pub fn deliver(
     appended();
     well_formed();
     let from = log.len();
-    let planned = Actor::at(parts, pid, inside)?.plan_delivery(alloc, signo, log)?;
+    let mut sends = Sends::Nothing;
+    let outcome = Actor::at(parts, pid, inside)?.plan_delivery(alloc, signo, log, &mut sends)?;
     log.make_from(parts, from);
-    Ok(planned)
+    Ok(Planned { outcome, sends })
 }

@@ -4,7 +4,7 @@ ghost use Rattle.tx_base.specs.declared.steps.Refusal.TheVariants as refusal;
 ghost use Rattle.tx_change.specs.declared.change.Change.TheVariants.{Part as SetPart};
 ghost use Rattle.tx_kernel.specs.Actors.{IsActor, effect_by};
 ghost use Rattle.tx_kernel.specs.Own.{ComesTo, IsPlainPart, PlansOwn, answer_after};
-ghost use Rattle.tx_kernel.specs.Plans.{Extends, Plans};
+ghost use Rattle.tx_kernel.specs.Plans.{Extends, Plans, quiet};
 ghost use Rattle.tx_model.specs.Forms.{Rule, answers, changes, fails};
 ghost use Rattle.tx_signal.specs.Parts.{answer_of};
 ghost use Rattle.tx_model.specs.State.{Object, State};
@@ -13,7 +13,7 @@ ghost use Rattle.tx_proc.specs.declared.proc.Part.TheVariants.{Answer as SetAnsw
 
 use crate::actor::Actor;
 use crate::laws::laws;
-use crate::planned::{Outcome, Planned};
+use crate::planned::Outcome;
 use tx_base::{Errno, NoMemory, Refusal};
 use tx_change::{Change, Log};
 use tx_proc::{Answer, Part};
@@ -92,26 +92,25 @@ impl Actor<'_> {
     }
 
     /// Plans only this answer, as a whole step. If memory is refused, the log is as it was.
-    pub(crate) fn plan_done(&self, ret: i64, log: &mut Log) -> Result<Planned, Refusal>
+    pub(crate) fn plan_done(&self, ret: i64, log: &mut Log) -> Result<Outcome, Refusal>
         requires { IsActor self.now }
-        ensures ok { IfOk result (λ planned.
-            (objects : State → List Object) → Plans self.now log.old log.new planned
+        ensures ok { IfOk result (λ outcome.
+            (objects : State → List Object) → Plans self.now log.old log.new (quiet outcome)
             (effect_by self.now (λ c. answers ret)) objects) }
         ensures refused { IfErr result (λ why. why ≡ refusal.NoMemory) }
         ensures log { OnErr result (log.new ≡ log.old) }
     {
         laws();
         self.parts.descs.sized();
-        let outcome = self.plan_answer(ret, log)?;
-        Ok(Planned::quiet(outcome))
+        Ok(self.plan_answer(ret, log)?)
     }
 
     /// Plans only an error as the answer, as a whole step. If memory is refused, the log is as it
     /// was.
-    pub(crate) fn plan_failure(&self, errno: Errno, log: &mut Log) -> Result<Planned, Refusal>
+    pub(crate) fn plan_failure(&self, errno: Errno, log: &mut Log) -> Result<Outcome, Refusal>
         requires { IsActor self.now }
-        ensures ok { IfOk result (λ planned.
-            (objects : State → List Object) → Plans self.now log.old log.new planned
+        ensures ok { IfOk result (λ outcome.
+            (objects : State → List Object) → Plans self.now log.old log.new (quiet outcome)
             (effect_by self.now (λ c. fails errno)) objects) }
         ensures refused { IfErr result (λ why. why ≡ refusal.NoMemory) }
         ensures log { OnErr result (log.new ≡ log.old) }

@@ -5,8 +5,8 @@ ghost use Rattle.tx_kernel.specs.Actors.{IsActor, effect_by, inside_of, me_of, n
 ghost use Rattle.tx_kernel.specs.Own.{PlansOwn, PlansPart};
 ghost use Rattle.tx_kernel.specs.Plans.{Extends, Plans, RefusedBy};
 ghost use Rattle.tx_model.specs.Deliveries.{action_at, at_catch_point, is_deferred, without_delivered, reaction, delivery, delivery_page};
-ghost use Rattle.tx_model.specs.Words.{delivery_effect, delivery_objects, is_fatal, is_full};
-ghost use Rattle.tx_model.specs.Forms.{stands, caller, effect_of};
+ghost use Rattle.tx_model.specs.Words.{is_fatal, is_full};
+ghost use Rattle.tx_model.specs.Forms.{stands};
 ghost use Rattle.tx_model.specs.Processes.{ending_objects};
 ghost use Rattle.tx_model.specs.Signals.{disposition};
 

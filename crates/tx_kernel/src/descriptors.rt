@@ -5,7 +5,7 @@ ghost use Rattle.tx_change.specs.States.{state_of};
 ghost use Rattle.tx_desc.specs.Plans.{AreFds, AreNumbers, put_descs, rename_puts};
 ghost use Rattle.tx_kernel.specs.Actors.{IsActor, effect_by, names_by};
 ghost use Rattle.tx_kernel.specs.Named.{described_by, endless_changes, gone_of, pipe_changes, rename_changes, slot_change};
-ghost use Rattle.tx_kernel.specs.Plans.{Plans, RefusedBy, IsBadChoice, IsGoodChoice, Extends};
+ghost use Rattle.tx_kernel.specs.Plans.{Extends, IsBadChoice, IsGoodChoice, Plans, RefusedBy, quiet};
 ghost use Rattle.tx_model.specs.Answer.{ChoosesPipe, is_bad_choice};
 ghost use Rattle.tx_model.specs.Book.{pipe as pipe_rule, dup, dup2, close, set_nonblock, desc_of, desc_and_pipe_of};
 ghost use Rattle.tx_model.specs.Descriptors.{descriptor, is_pipe_in_use};
@@ -14,7 +14,7 @@ ghost use Rattle.tx_model.specs.State.{Sending};
 
 use crate::actor::Actor;
 use crate::laws::laws;
-use crate::planned::{Outcome, Planned};
+use crate::planned::Outcome;
 use std::alloc::Global;
 use tx_base::{DESCRIPTIONS, DescNo, NoMemory, PIPES, PipeNo, Refusal};
 use tx_change::{BoxedPipe, Change, Log, PipePart};
@@ -37,15 +37,15 @@ impl Actor<'_> {
         read: DescNo,
         write: DescNo,
         log: &mut Log,
-    ) -> Result<Planned, Refusal>
+    ) -> Result<Outcome, Refusal>
         requires { IsActor self.now }
-        ensures ok { IfOk result (λ planned. Plans self.now log.old log.new planned
+        ensures ok { IfOk result (λ outcome. Plans self.now log.old log.new (quiet outcome)
             (effect_by self.now (pipe_rule pipe.0 read.0 write.0))
             (names_by self.now (λ c. pipe_objects pipe.0 read.0 write.0))) }
         ensures refused { IfErr result (λ why.
             RefusedBy self.now why (effect_by self.now (pipe_rule pipe.0 read.0 write.0))
             ⊎ IsBadChoice self.now why (ChoosesPipe pipe.0 read.0 write.0)) }
-        ensures numbers { IfOk result (λ planned.
+        ensures numbers { IfOk result (λ outcome.
             IsGoodChoice self.now (ChoosesPipe pipe.0 read.0 write.0)) }
         ensures log { OnErr result (Extends log.old log.new) }
     {
@@ -61,7 +61,7 @@ impl Actor<'_> {
         match self.proc.descriptors.plan_pipe(pipe, read, write) {
             Ok(plan) => {
                 self.push_pipe(alloc, pipe, plan, log)?;
-                Ok(Planned::quiet(Outcome::Done(0)))
+                Ok(Outcome::Done(0))
             }
             Err(errno) => self.plan_failure(errno, log),
         }
@@ -73,9 +73,9 @@ impl Actor<'_> {
     /// Answers EBADF where the descriptor is not 0 to 15 or is not open, and EMFILE where no
     /// descriptor is free. NoMemory where a growth is refused; the log may then have more at its
     /// end.
-    pub(crate) fn plan_dup(&self, fd: i64, log: &mut Log) -> Result<Planned, Refusal>
+    pub(crate) fn plan_dup(&self, fd: i64, log: &mut Log) -> Result<Outcome, Refusal>
         requires { IsActor self.now }
-        ensures ok { IfOk result (λ planned. Plans self.now log.old log.new planned
+        ensures ok { IfOk result (λ outcome. Plans self.now log.old log.new (quiet outcome)
             (effect_by self.now (dup fd)) (names_by self.now (desc_of fd))) }
         ensures refused { IfErr result (λ why.
             RefusedBy self.now why (effect_by self.now (dup fd))) }
@@ -89,7 +89,7 @@ impl Actor<'_> {
                 self.push_desc(plan.desc, log)?;
                 let ret = plan.name.fd as i64;
                 self.push_answer(ret, log)?;
-                Ok(Planned::quiet(Outcome::Done(ret)))
+                Ok(Outcome::Done(ret))
             }
             Err(errno) => self.plan_failure(errno, log),
         }
@@ -100,9 +100,9 @@ impl Actor<'_> {
     ///
     /// Answers EBADF where the first descriptor is not 0 to 15 or is not open, or the second is not
     /// 0 to 15. NoMemory where a growth is refused; the log may then have more at its end.
-    pub(crate) fn plan_dup2(&self, fd: i64, other: i64, log: &mut Log) -> Result<Planned, Refusal>
+    pub(crate) fn plan_dup2(&self, fd: i64, other: i64, log: &mut Log) -> Result<Outcome, Refusal>
         requires { IsActor self.now }
-        ensures ok { IfOk result (λ planned. Plans self.now log.old log.new planned
+        ensures ok { IfOk result (λ outcome. Plans self.now log.old log.new (quiet outcome)
             (effect_by self.now (dup2 fd other))
             (names_by self.now (λ c.
             dup2_objects (descriptor fd) (descriptor other) c.process c.state))) }
@@ -121,7 +121,7 @@ impl Actor<'_> {
                 self.push_rename(plan.renamed.given, plan.rename, log)?;
                 let ret = plan.renamed.fd as i64;
                 self.push_answer(ret, log)?;
-                Ok(Planned::quiet(Outcome::Done(ret)))
+                Ok(Outcome::Done(ret))
             }
             Err(errno) => self.plan_failure(errno, log),
         }
@@ -132,9 +132,9 @@ impl Actor<'_> {
     ///
     /// Answers EBADF where the descriptor is not 0 to 15 or is not open. NoMemory where a growth is
     /// refused; the log may then have more at its end.
-    pub(crate) fn plan_close(&self, fd: i64, log: &mut Log) -> Result<Planned, Refusal>
+    pub(crate) fn plan_close(&self, fd: i64, log: &mut Log) -> Result<Outcome, Refusal>
         requires { IsActor self.now }
-        ensures ok { IfOk result (λ planned. Plans self.now log.old log.new planned
+        ensures ok { IfOk result (λ outcome. Plans self.now log.old log.new (quiet outcome)
             (effect_by self.now (close fd)) (names_by self.now (desc_and_pipe_of fd))) }
         ensures refused { IfErr result (λ why.
             RefusedBy self.now why (effect_by self.now (close fd))) }
@@ -148,7 +148,7 @@ impl Actor<'_> {
                 self.push_desc(plan.desc, log)?;
                 self.push_endless(plan.given.gone, &[plan.desc], log)?;
                 self.push_answer(0, log)?;
-                Ok(Planned::quiet(Outcome::Done(0)))
+                Ok(Outcome::Done(0))
             }
             Err(errno) => self.plan_failure(errno, log),
         }
@@ -159,9 +159,9 @@ impl Actor<'_> {
     ///
     /// Answers EBADF where the descriptor is not 0 to 15 or is not open. NoMemory where a growth is
     /// refused; the log may then have more at its end.
-    pub(crate) fn plan_nonblock(&self, fd: i64, on: bool, log: &mut Log) -> Result<Planned, Refusal>
+    pub(crate) fn plan_nonblock(&self, fd: i64, on: bool, log: &mut Log) -> Result<Outcome, Refusal>
         requires { IsActor self.now }
-        ensures ok { IfOk result (λ planned. Plans self.now log.old log.new planned
+        ensures ok { IfOk result (λ outcome. Plans self.now log.old log.new (quiet outcome)
             (effect_by self.now (set_nonblock fd on)) (names_by self.now (desc_of fd))) }
         ensures refused { IfErr result (λ why.
             RefusedBy self.now why (effect_by self.now (set_nonblock fd on))) }
@@ -177,7 +177,7 @@ impl Actor<'_> {
             Ok(new) => {
                 self.push_desc(new, log)?;
                 self.push_answer(0, log)?;
-                Ok(Planned::quiet(Outcome::Done(0)))
+                Ok(Outcome::Done(0))
             }
             Err(errno) => self.plan_failure(errno, log),
         }
@@ -264,7 +264,7 @@ impl Actor<'_> {
         let Some(desc) = gone else {
             return Ok(());
         };
-        if self.parts.descs.with(news).names_pipe(desc.pipe) {
+        if self.parts.descs.names_pipe_with(news, desc.pipe) {
             return Ok(());
         }
         log.push(Change::Pipe(desc.pipe, PipePart::Whole(None)))

@@ -2,14 +2,14 @@
 ghost use Rattle.std.specs.Prelude.{◌≡◌, ◌≢◌, ◌≤◌, ◌+◌, ◌++◌, length, slice_index_or, None, IfOk, IfErr, OnOk, OnErr};
 ghost use Rattle.tx_base.specs.declared.steps.Refusal.TheVariants as refusal;
 ghost use Rattle.tx_desc.specs.Plans.{AreNumbers};
-ghost use Rattle.tx_kernel.specs.Actors.{IsActor, IsWhole, inside_of, me_of, effect_by, names_by};
+ghost use Rattle.tx_kernel.specs.Actors.{IsActor, IsWhole, inside_of, effect_by, names_by};
 ghost use Rattle.tx_kernel.specs.Endings.{OnlyRemoves, child_at, gone_changes, gone_at, orphan_changes, pipe_through, plain, plain_with, takes_out};
 ghost use Rattle.tx_kernel.specs.Named.{described_by};
 ghost use Rattle.tx_kernel.specs.Plans.{Extends, Plans, held_after, sent_at_once};
 ghost use Rattle.tx_model.specs.Descriptors.{open_in, pipes_of};
 ghost use Rattle.tx_model.specs.Processes.{children_below, ending, ending_objects, parent_notice, notice_now, notice_held};
 ghost use Rattle.tx_model.specs.State.{State, with_writes};
-ghost use Rattle.tx_model.specs.Forms.{caller, does};
+ghost use Rattle.tx_model.specs.Forms.{does};
 
 use crate::actor::Actor;
 use crate::laws::laws;

@@ -3,11 +3,12 @@ ghost use Rattle.std.specs.Prelude.{◌≡◌, IfErr, IfOk, OnErr};
 ghost use Rattle.tx_base.specs.declared.steps.Refusal.TheVariants.{NoMemory};
 ghost use Rattle.tx_kernel.specs.Actors.{IsActor, inside_of};
 ghost use Rattle.tx_kernel.specs.Acts.{PlansEvent, RefusesEvent, event_of};
+ghost use Rattle.tx_kernel.specs.Plans.{quiet};
 ghost use Rattle.tx_model.specs.Events.{Note};
 
 use crate::actor::Actor;
 use crate::laws::laws;
-use crate::planned::Planned;
+use crate::planned::{Outcome, Sends};
 use std::alloc::Global;
 use tx_base::{Call, Refusal, Signo};
 use tx_change::Log;
@@ -25,35 +26,45 @@ pub enum Act<'a> {
 
 impl Actor<'_> {
     /// Plans what the process does, as `plan_call` and `plan_delivery` do: appends its exchanges to
-    /// the log, with those of its post. Nothing is changed.
+    /// the log, with those of its post, and puts what it sends into its place. Nothing is changed.
     ///
     /// Refuses as these do, and an answer only with NoMemory. The log is then as it was.
-    pub fn plan(&self, alloc: Global, act: &Act, log: &mut Log) -> Result<Planned, Refusal>
+    pub fn plan(
+        &self,
+        alloc: Global,
+        act: &Act,
+        log: &mut Log,
+        sends: &mut Sends,
+    ) -> Result<Outcome, Refusal>
         requires { IsActor self.now }
-        ensures ok { IfOk result (λ planned. PlansEvent self.now log.old log.new planned
+        ensures ok { IfOk result (λ outcome.
+            PlansEvent self.now log.old log.new
+            (record { outcome = outcome; sends = sends.new })
             (event_of (inside_of self.now.inside) self.now.pid act.now)) }
         ensures refused { IfErr result (RefusesEvent self.now.parts.now self.now.inside
             (event_of (inside_of self.now.inside) self.now.pid act.now)) }
         ensures err { OnErr result (log.new ≡ log.old) }
     {
         match act {
-            Act::Call(call) => self.plan_call(alloc, call, log),
-            Act::Delivery(signo) => self.plan_delivery(alloc, *signo, log),
-            Act::Answer(ret) => self.plan_note(*ret, log),
+            Act::Call(call) => self.plan_call(alloc, call, log, sends),
+            Act::Delivery(signo) => self.plan_delivery(alloc, *signo, log, sends),
+            Act::Answer(ret) => {
+                *sends = Sends::Nothing;
+                self.plan_note(*ret, log)
+            }
         }
     }
 
     /// Plans only an answer. Refuses only with NoMemory; the log is then as it was.
-    fn plan_note(&self, ret: i64, log: &mut Log) -> Result<Planned, Refusal>
+    fn plan_note(&self, ret: i64, log: &mut Log) -> Result<Outcome, Refusal>
         requires { IsActor self.now }
-        ensures ok { IfOk result (λ planned.
-            PlansEvent self.now log.old log.new planned (Note self.now.pid.0 ret)) }
+        ensures ok { IfOk result (λ outcome.
+            PlansEvent self.now log.old log.new (quiet outcome) (Note self.now.pid.0 ret)) }
         ensures memory { IfErr result (λ why. why ≡ NoMemory) }
         ensures err { OnErr result (log.new ≡ log.old) }
     {
         laws();
         self.parts.descs.sized();
-        let outcome = self.plan_answer(ret, log)?;
-        Ok(Planned::quiet(outcome))
+        Ok(self.plan_answer(ret, log)?)
     }
 }

@@ -5,8 +5,8 @@
 //!
 //! An `Actor` is who makes a step: the parts, its number, its process, and the transaction that it
 //! is `Inside` of. Each call is a method that reads like its rule: it appends its exchanges to a
-//! `Log`, and answers what the call answers and sends (`Planned`). Each group of calls has its
-//! file, as in the definitions.
+//! `Log`, and gives the call's answer (`Outcome`); one that may send gives that too (`Planned`).
+//! Each group of calls has its file, as in the definitions.
 //!
 //! `Plans` is what each must meet: changes name numbers in range and objects of the rule; once
 //! exchanged, counts of names agree and each process has its places; the state is the rule's before
@@ -58,7 +58,7 @@ pub use actor::Actor;
 pub use acts::{act, deliver};
 pub use events::Act;
 pub use inside::Inside;
-pub use laws::{booted_are_whole, plans_are_made};
+pub use laws::{booted_are_whole, plans_are_made, quiet_calls_send_nothing};
 pub use planned::{Outcome, Planned, Sends, Shown};
 pub use posts::{Face, Posted, plan_post, post};
 pub use sends::sendable;

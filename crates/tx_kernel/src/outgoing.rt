@@ -3,7 +3,7 @@ ghost use Rattle.std.specs.Prelude.{◌≡◌, ℤ};
 ghost use Rattle.tx_kernel.specs.Actors.{IsActor, effect_by, inside_of, me_of};
 ghost use Rattle.tx_kernel.specs.Sends.{IsSentBy};
 ghost use Rattle.tx_model.specs.Book.{exit};
-ghost use Rattle.tx_model.specs.Words.{call_effect, delivery_effect, is_fatal};
+ghost use Rattle.tx_model.specs.Words.{call_effect, is_fatal};
 ghost use Rattle.tx_model.specs.Deliveries.{delivered_value, ends_by, delivery};
 
 use crate::actor::Actor;

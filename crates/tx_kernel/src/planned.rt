@@ -52,4 +52,14 @@ impl Planned {
             sends: Sends::Nothing,
         }
     }
+
+    /// Puts what it sends into a place, and gives its answer: what goes up through several layers
+    /// is small then.
+    pub(crate) fn put_sends(self, place: &mut Sends) -> Outcome
+        ensures sends { place.new ≡ self.sends }
+        ensures outcome { result ≡ self.outcome }
+    {
+        *place = self.sends;
+        self.outcome
+    }
 }

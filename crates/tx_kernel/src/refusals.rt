@@ -4,7 +4,7 @@ ghost use Rattle.tx_change.specs.States.{state_of};
 ghost use Rattle.tx_kernel.specs.Actors.{CountsHeld, IsActor, effect_by, inside_of, me_of};
 ghost use Rattle.tx_kernel.specs.Refusals.{IsMade, TellsWait, lacks_frame, number_refusal};
 ghost use Rattle.tx_model.specs.Answer.{is_bad_choice, is_choice_in_use};
-ghost use Rattle.tx_model.specs.Words.{chosen_in, call_effect, delivery_effect};
+ghost use Rattle.tx_model.specs.Words.{chosen_in, call_effect};
 ghost use Rattle.tx_model.specs.Book.{read, waitpid, write};
 ghost use Rattle.tx_model.specs.Deliveries.{action_at, delivery};
 ghost use Rattle.tx_model.specs.Effects.{idle};

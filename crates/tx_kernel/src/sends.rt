@@ -1,5 +1,5 @@
 //! Signals that a process sends (POSIX.1-2017, XSH, kill() and sigqueue()).
-ghost use Rattle.std.specs.Prelude.{◌≡◌, ◌<◌, ◌≤◌, ℕ, ℤ, List, length, option_map, IfOk, IfSome, OnErr};
+ghost use Rattle.std.specs.Prelude.{◌≡◌, ◌<◌, ℕ, ℤ, List, option_map, IfOk, IfSome, OnErr};
 ghost use Rattle.tx_kernel.specs.Actors.{CountsHeld, IsActor, effect_by, names_by};
 ghost use Rattle.tx_kernel.specs.Plans.{Extends, HasSignal};
 ghost use Rattle.tx_kernel.specs.Sends.{IsHandedOut, PlansPosted, sends_by, sent};

@@ -152,7 +152,8 @@ impl Actor<'_> {
         Ok(Outcome::Done(ret))
     }
 
-    /// Appends the exchanges that put these slots in place.
+    /// Appends the exchanges that put these slots in place, but for those that have their value
+    /// already.
     fn push_slots(&self, slots: &[i64; SLOTS], log: &mut Log) -> Result<(), NoMemory>
         requires { IsActor self.now }
         ensures ok { OnOk result (PlansPart self.now log.old log.new (with_slots slots.now)) }
@@ -160,7 +161,9 @@ impl Actor<'_> {
     {
         for number in 0..SLOTS {
             let value = slots[number];
-            self.push(Part::Register(Register { number, value }), log)?;
+            if value != self.proc.regs.slots[number] {
+                self.push(Part::Register(Register { number, value }), log)?;
+            }
         }
         Ok(())
     }

@@ -1,14 +1,11 @@
 //! The plan of a whole step: what it writes, its post, and its answer.
-ghost use Rattle.std.specs.Prelude.{◌≡◌, ℕ, ◌<◌, ◌++◌, ◌∷◌, List, IfOk, OnOk, OnErr};
-ghost use Rattle.tx_change.specs.States.{state_of};
+ghost use Rattle.std.specs.Prelude.{◌≡◌, ◌<◌, List, IfOk, OnOk, OnErr};
 ghost use Rattle.tx_change.specs.declared.change.Change.{Change as TheChange};
-ghost use Rattle.tx_kernel.specs.Actors.{CountsHeld, IsActor};
 ghost use Rattle.tx_kernel.specs.Plans.{Extends, HasSignal, Plans, sending_of};
 ghost use Rattle.tx_kernel.specs.Posts.{PlansPost};
 ghost use Rattle.tx_kernel.specs.Steps.{PlansStep};
 ghost use Rattle.tx_model.specs.Effects.{Effect};
-ghost use Rattle.tx_model.specs.Words.{before_sends};
-ghost use Rattle.tx_model.specs.State.{Object, Sending as TheSending, State};
+ghost use Rattle.tx_model.specs.State.{Object, State};
 
 use crate::actor::Actor;
 use crate::laws::laws;

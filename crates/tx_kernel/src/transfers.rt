@@ -1,18 +1,17 @@
 //! The calls that read from a pipe and write to it.
-ghost use Rattle.std.specs.Prelude.{◌≡◌, ◌≤◌, ◌+◌, ◌++◌, ◌∷◌, [], ℕ, ℤ, List, Ok, Some, true, length, IfOk, IfErr, IsSome, OnOk, OnErr};
-ghost use Rattle.tx_change.specs.Exchange.{pipe_at};
+ghost use Rattle.std.specs.Prelude.{◌≡◌, ◌≤◌, ◌+◌, ◌++◌, ◌∷◌, [], ℕ, ℤ, List, Ok, Some, true, length, IfOk, IfErr, OnOk, OnErr};
 ghost use Rattle.tx_base.specs.declared.errors.Errno.TheVariants.{BrokenPipe};
 ghost use Rattle.tx_change.specs.declared.change.Change.TheVariants.{Part as SetPart, Pipe as SetPipe};
-ghost use Rattle.tx_change.specs.declared.pipes.PipePart.TheVariants.{Back};
+ghost use Rattle.tx_change.specs.declared.pipes.PipePart.TheVariants.{Back, Front};
 ghost use Rattle.tx_desc.specs.Descriptions.{description_of};
 ghost use Rattle.tx_kernel.specs.Actors.{IsActor, effect_by, me_of, names_by};
-ghost use Rattle.tx_kernel.specs.Own.{answer_after};
+ghost use Rattle.tx_kernel.specs.Own.{answer_after, page_change};
 ghost use Rattle.tx_kernel.specs.Piped.{AsksFor, CanPut, CanTake, IsPutting, IsReadyToPut, IsReadyToTake, PutsTo, TakesBytes, TakesFrom, broken, broken_sending, calling, end_at, held_in, opened_at, put_bytes, reading_outcome, writing_outcome};
-ghost use Rattle.tx_kernel.specs.Plans.{Plans, RefusedBy, Extends};
+ghost use Rattle.tx_kernel.specs.Plans.{Extends, Plans, RefusedBy, quiet};
 ghost use Rattle.tx_kernel.specs.Sends.{IsSentBy};
 ghost use Rattle.tx_model.specs.Book.{desc_and_pipe_of, end_at as end_in, read, write, is_read_side, is_write_side};
 ghost use Rattle.tx_model.specs.Descriptors.{descriptor, description_named};
-ghost use Rattle.tx_model.specs.Memory.{address_of, bytes_at, bytes_from, is_good, is_mapped};
+ghost use Rattle.tx_model.specs.Memory.{bytes_from, is_good, is_mapped};
 ghost use Rattle.tx_model.specs.Numbers.{error_answer};
 ghost use Rattle.tx_model.specs.State.{Sending as TheSending};
 ghost use Rattle.tx_proc.specs.declared.proc.Part.TheVariants.{Answer as SetAnswer};
@@ -26,8 +25,9 @@ use tx_base::{
 };
 use tx_change::{BoxedPipe, Change, Log, PipePart};
 use tx_desc::{Desc, Side};
-use tx_pages::Access;
+use tx_pages::{Access, NewPage};
 use tx_pipe::Pipe;
+use tx_proc::Part;
 
 /// What a write comes to, if it is no error.
 #[derive(Clone, Copy)]
@@ -68,9 +68,9 @@ impl Actor<'_> {
         address: i64,
         count: i64,
         log: &mut Log,
-    ) -> Result<Planned, Refusal>
+    ) -> Result<Outcome, Refusal>
         requires { IsActor self.now }
-        ensures ok { IfOk result (λ planned. Plans self.now log.old log.new planned
+        ensures ok { IfOk result (λ outcome. Plans self.now log.old log.new (quiet outcome)
             (effect_by self.now (read fd address count))
             (names_by self.now (desc_and_pipe_of fd))) }
         ensures refused { IfErr result (λ why.
@@ -86,7 +86,7 @@ impl Actor<'_> {
                 self.push_take(alloc, pipe, address, n, log)?;
                 let ret = n as i64;
                 self.push_answer(ret, log)?;
-                Ok(Planned::quiet(Outcome::Done(ret)))
+                Ok(Outcome::Done(ret))
             }
             Err(errno) => self.plan_failure(errno, log),
         }
@@ -105,7 +105,47 @@ impl Actor<'_> {
         ensures ok { OnOk result (TakesBytes self.now log.old log.new pipe address n) }
         ensures err { OnErr result (Extends log.old log.new) }
     {
-        // The address is good, so NoMemory is the only error left.
+        let bytes = &self.held_bytes(pipe)[..n];
+        // Most often the bytes go to one page, and no list of pages is needed.
+        match self.proc.space.plan_store_on_page(alloc, address, bytes) {
+            Some(Ok(new)) => self.push_take_to_page(alloc, pipe, n, new, log),
+            Some(Err(_)) => Err(NoMemory), // the address is good: no other error is left
+            None => self.push_take_to_pages(alloc, pipe, address, n, log),
+        }
+    }
+
+    /// Appends the move of bytes from a pipe to this page.
+    fn push_take_to_page(
+        &self,
+        alloc: Global,
+        pipe: PipeNo,
+        n: usize,
+        new: NewPage,
+        log: &mut Log,
+    ) -> Result<(), NoMemory>
+        ensures ok { OnOk result
+            (log.new ≡ log.old ++ SetPipe pipe (Front n []) ∷ page_change self.now.pid new ∷ []) }
+        ensures err { OnErr result (Extends log.old log.new) }
+    {
+        let none = BoxedPipe::new(alloc, Pipe::new())?;
+        log.reserve(3)?;
+        log.push(Change::Pipe(pipe, PipePart::Front(n, none)))?;
+        self.push(Part::Page(new.number, new.page), log)
+    }
+
+    /// The same as `push_take` of bytes that go to several pages.
+    fn push_take_to_pages(
+        &self,
+        alloc: Global,
+        pipe: PipeNo,
+        address: i64,
+        n: usize,
+        log: &mut Log,
+    ) -> Result<(), NoMemory>
+        requires { CanTake self.now pipe n }
+        ensures ok { OnOk result (TakesBytes self.now log.old log.new pipe address n) }
+        ensures err { OnErr result (Extends log.old log.new) }
+    {
         let Ok(new) = self
             .proc
             .space
@@ -201,7 +241,7 @@ impl Actor<'_> {
         laws();
         self.parts.descs.sized();
         match self.writing(fd, address, count) {
-            Ok(Writing::Nothing) => self.plan_done(0, log),
+            Ok(Writing::Nothing) => Ok(Planned::quiet(self.plan_done(0, log)?)),
             Ok(Writing::Breaks) => Ok(self.push_broken(log)?),
             Ok(Writing::Waits) => Err(Refusal::Wait),
             Ok(Writing::Puts(pipe, n)) => {
@@ -210,7 +250,7 @@ impl Actor<'_> {
                 self.push_answer(ret, log)?;
                 Ok(Planned::quiet(Outcome::Done(ret)))
             }
-            Err(errno) => self.plan_failure(errno, log),
+            Err(errno) => Ok(Planned::quiet(self.plan_failure(errno, log)?)),
         }
     }
 

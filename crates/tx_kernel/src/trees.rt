@@ -1,15 +1,15 @@
 //! The calls on children: fork, and the wait for a child that has ended.
-ghost use Rattle.std.specs.Prelude.{◌≡◌, ◌≤◌, ◌⊎◌, ℕ, pos, ◌∷◌, ◌++◌, [], List, length, option_map, IfOk, IfErr, OnOk, OnErr};
+ghost use Rattle.std.specs.Prelude.{◌≡◌, ◌≤◌, ◌⊎◌, pos, ◌∷◌, ◌++◌, [], length, option_map, IfOk, IfErr, OnOk, OnErr};
 ghost use Rattle.tx_base.specs.declared.steps.Refusal.TheVariants.{NoMemory};
 ghost use Rattle.tx_kernel.specs.Actors.{IsActor, effect_by, names_by};
 ghost use Rattle.tx_base.specs.Slots.{slot_at};
 ghost use Rattle.tx_change.specs.Counts.{desc_changes};
 ghost use Rattle.tx_change.specs.Exchange.{IsPid, sizes_of};
-ghost use Rattle.tx_kernel.specs.Plans.{Plans, Extends, IsBadChoice, IsGoodChoice, RefusedBy};
+ghost use Rattle.tx_kernel.specs.Plans.{Extends, IsBadChoice, IsGoodChoice, Plans, RefusedBy, quiet};
 ghost use Rattle.tx_kernel.specs.Trees.{child_at, IsEndedChild};
 ghost use Rattle.tx_model.specs.Answer.{ChoosesProcess, is_bad_choice};
 ghost use Rattle.tx_model.specs.Book.{exit, fork, waitpid};
-ghost use Rattle.tx_model.specs.Forms.{changes, caller};
+ghost use Rattle.tx_model.specs.Forms.{changes};
 ghost use Rattle.tx_model.specs.Processes.{child_of, exit_status, pid_of};
 ghost use Rattle.tx_model.specs.Words.{exit_objects, fork_objects, waitpid_objects, with_status};
 ghost use Rattle.tx_model.specs.State.{Proc as TheProc, SetProc};
@@ -42,15 +42,15 @@ impl Actor<'_> {
         alloc: Global,
         child: Pid,
         log: &mut Log,
-    ) -> Result<Planned, Refusal>
+    ) -> Result<Outcome, Refusal>
         requires { IsActor self.now }
-        ensures ok { IfOk result (λ planned. Plans self.now log.old log.new planned
+        ensures ok { IfOk result (λ outcome. Plans self.now log.old log.new (quiet outcome)
             (effect_by self.now (fork child.0))
             (names_by self.now (λ c. fork_objects child.0 c.process))) }
         ensures refused { IfErr result (λ why.
             RefusedBy self.now why (effect_by self.now (fork child.0))
             ⊎ IsBadChoice self.now why (ChoosesProcess child.0)) }
-        ensures numbers { IfOk result (λ planned. IsGoodChoice self.now (ChoosesProcess child.0)) }
+        ensures numbers { IfOk result (λ outcome. IsGoodChoice self.now (ChoosesProcess child.0)) }
         ensures log { OnErr result (Extends log.old log.new) }
     {
         if self.is_bad_child(child) {
@@ -71,11 +71,11 @@ impl Actor<'_> {
     }
 
     /// Plans a child at a free number, the count of its names, and its number as the answer.
-    fn plan_child(&self, alloc: Global, child: Pid, log: &mut Log) -> Result<Planned, NoMemory>
+    fn plan_child(&self, alloc: Global, child: Pid, log: &mut Log) -> Result<Outcome, NoMemory>
         requires actor { IsActor self.now }
         requires number { IsPid (sizes_of self.now.parts.now) child.0 }
         requires free { slot_at self.now.parts.now.procs child.0 ≡ None }
-        ensures ok { IfOk result (λ planned. Plans self.now log.old log.new planned
+        ensures ok { IfOk result (λ outcome. Plans self.now log.old log.new (quiet outcome)
             (effect_by self.now (λ c. changes
             (pos child.0) c.process (SetProc child.0 (Some (child_of c.number c.process)) ∷ [])))
             (names_by self.now (λ c. fork_objects child.0 c.process))) }
@@ -84,13 +84,13 @@ impl Actor<'_> {
         laws();
         self.parts.descs.sized();
         let descs = self.parts.descs.plan_raise_all(&self.proc.descriptors);
-        let space = self.proc.space.copy()?;
-        let boxed = BoxedProc::new(alloc, self.proc.child(self.pid, space))?;
+        let mut boxed = BoxedProc::new(alloc, self.proc.child(self.pid))?;
+        boxed.share_pages(self.proc)?;
         log.reserve(descs.len() + 2)?;
         push_descs(descs.as_slice(), log)?;
         log.push(Change::Slot(child, Some(boxed)))?;
         self.push_answer(child.0 as i64, log)?;
-        Ok(Planned::quiet(Outcome::Done(child.0 as i64)))
+        Ok(Outcome::Done(child.0 as i64))
     }
 
     /// Ends the process with this status modulo 256 (POSIX.1-2017, XSH, _exit()).
@@ -112,7 +112,8 @@ impl Actor<'_> {
         ensures log { OnErr result (Extends log.old log.new) }
     {
         if self.pid.0 == 1 {
-            return self.plan_failure(Errno::NotPermitted, log);
+            let outcome = self.plan_failure(Errno::NotPermitted, log)?;
+            return Ok(Planned::quiet(outcome));
         }
         self.plan_ending(alloc, exit_status(status), log)
     }
@@ -128,9 +129,9 @@ impl Actor<'_> {
         number: i64,
         nohang: bool,
         log: &mut Log,
-    ) -> Result<Planned, Refusal>
+    ) -> Result<Outcome, Refusal>
         requires { IsActor self.now }
-        ensures ok { IfOk result (λ planned. Plans self.now log.old log.new planned
+        ensures ok { IfOk result (λ outcome. Plans self.now log.old log.new (quiet outcome)
             (effect_by self.now (waitpid number nohang))
             (names_by self.now (λ c. waitpid_objects number c.state))) }
         ensures refused { IfErr result (λ why.
@@ -179,10 +180,10 @@ impl Actor<'_> {
 
     /// Plans the removal of a child that has ended with this status, the status in slot 0, and the
     /// child's number as the answer.
-    fn plan_removal(&self, child: Pid, status: u16, log: &mut Log) -> Result<Planned, NoMemory>
+    fn plan_removal(&self, child: Pid, status: u16, log: &mut Log) -> Result<Outcome, NoMemory>
         requires actor { IsActor self.now }
         requires ended { IsEndedChild self.now child.0 status }
-        ensures ok { IfOk result (λ planned. Plans self.now log.old log.new planned
+        ensures ok { IfOk result (λ outcome. Plans self.now log.old log.new (quiet outcome)
             (effect_by self.now (λ c. changes
             (pos child.0) (with_status status c.process) (SetProc child.0 None ∷ []))) (λ S.
             TheProc child.0 ∷ [])) }
@@ -197,7 +198,7 @@ impl Actor<'_> {
         };
         self.push(Part::Register(slot), log)?;
         self.push_answer(child.0 as i64, log)?;
-        Ok(Planned::quiet(Outcome::Done(child.0 as i64)))
+        Ok(Outcome::Done(child.0 as i64))
     }
 }
 

@@ -6,7 +6,7 @@ ghost use Rattle.tx_desc.specs.Places.{named_in};
 
 use std::test::Fail;
 use tx_base::{DescNo, Errno, PipeNo};
-use tx_desc::{Descs, FdTable, Given, none_named_at_first, room_for_names};
+use tx_desc::{Descs, FdTable, Given, NewDesc, none_named_at_first, room_for_names};
 
 /// A process that opened pipe 3, with descriptions 5 and 9 at descriptors 0 and 1.
 fn opened() -> Result<(FdTable, Descs), Fail>
@@ -130,5 +130,24 @@ fn plans_of_descriptors_change_nothing(rt: HostRuntime) -> Result<(), Fail> {
     assert!(rt; nonblock.is_ok_and(|plan| plan.opened.is_some()));
     assert!(rt; descs.plan_raise_all(&table).len() == 2 && descs.plan_drop_all(&table).len() == 2);
     assert!(rt; table.get(1) == Some(DescNo(9)) && names(&descs, 9) == 1);
+    Ok(())
+}
+
+#[test]
+fn a_pipe_is_named_while_either_description_is_there(rt: HostRuntime) -> Result<(), Fail> {
+    let (mut table, mut descs) = opened()?;
+    let no_reader = NewDesc {
+        number: DescNo(5),
+        opened: None,
+    };
+    let no_writer = NewDesc {
+        number: DescNo(9),
+        opened: None,
+    };
+    assert!(rt; descs.names_pipe_with(&[no_reader], PipeNo(3)));
+    assert!(rt; !descs.names_pipe_with(&[no_reader, no_writer], PipeNo(3)));
+    let _given = close(&mut table, &mut descs, 0);
+    assert!(rt; descs.names_pipe_with(&[no_reader], PipeNo(3)));
+    assert!(rt; !descs.names_pipe_with(&[no_writer], PipeNo(3)));
     Ok(())
 }

@@ -7,7 +7,7 @@ use std::process::Abort;
 use std::test::Fail;
 use tx_base::{Call, Errno, NoMemory, Pid, Refusal, Sending, SigSet, Signo};
 use tx_change::{Log, Parts};
-use tx_kernel::{Actor, Outcome, act, booted_are_whole, deliver, plan_post, post};
+use tx_kernel::{Actor, Outcome, Sends, act, booted_are_whole, deliver, plan_post, post};
 use tx_proc::{Part, Proc};
 
 /// A signal that the privileged process 1 sends process 2.
@@ -134,11 +134,13 @@ fn plan_both(rt: &impl Abort, alloc: Global, parts: &Parts, log: &mut Log)
     let Ok(actor) = Actor::at(parts, Pid(2), None) else {
         panic!(rt; "process 2 runs");
     };
-    let Ok(planned) = actor.plan_call(alloc, &Call::Getppid, log) else {
+    let mut sends = Sends::Nothing;
+    let Ok(outcome) = actor.plan_call(alloc, &Call::Getppid, log, &mut sends) else {
         panic!(rt; "a call of a process that runs is planned");
     };
-    assert!(rt; matches!(planned.outcome, Outcome::Done(1)));
-    let delivered = actor.plan_delivery(alloc, Signo(10), log);
+    assert!(rt; matches!(outcome, Outcome::Done(1)));
+    assert!(rt; matches!(sends, Sends::Nothing));
+    let delivered = actor.plan_delivery(alloc, Signo(10), log, &mut sends);
     assert!(rt; matches!(delivered, Err(Refusal::NotDeliverable)));
 }
 

@@ -1,7 +1,7 @@
 //! The pages of a process, by their numbers.
 ghost use Rattle.std.specs.Bool.{OnTrue};
 ghost use Rattle.std.specs.Option.{option_copied};
-ghost use Rattle.std.specs.Prelude.{◌≡◌, ◌≢◌, ◌<◌, ◌≤◌, ℕ, ◌+◌, ◌++◌, ◌-◌, ◌/◌, ◌%◌, IfOk, IfErr, IfSome, OnErr, is_some, length, min, slice_set};
+ghost use Rattle.std.specs.Prelude.{◌≡◌, ◌≢◌, ◌<◌, ◌≤◌, ℕ, ◌+◌, ◌++◌, ◌-◌, ◌/◌, ◌%◌, IfOk, IfErr, IfSome, OnOk, OnErr, is_some, length, min, slice_set};
 ghost use Rattle.tx_model.specs.Book.{map, unmap, protect, store};
 ghost use Rattle.tx_model.specs.Forms.{Caller};
 ghost use Rattle.tx_model.specs.Memory.{no_memory, page_at, all_good, bytes_from, put_bytes, is_good};
@@ -88,8 +88,24 @@ impl Space {
     pub fn copy(&self) -> Result<Space, NoMemory>
         ensures { IfOk result (λ space. space ≡ self.now) }
     {
-        let pages = shared(&self.pages)?;
-        Ok(Space { pages })
+        let mut space = Space::new();
+        space.share(self)?;
+        Ok(space)
+    }
+
+    /// Shares the frames of the pages of another, where no page is mapped here.
+    ///
+    /// NoMemory where a frame can't be shared again. Some of the pages may then be there.
+    pub fn share(&mut self, from: &Space) -> Result<(), NoMemory>
+        requires { self.old ≡ no_memory }
+        ensures { OnOk result (self.new ≡ from.now) }
+    {
+        for i in 0..PAGES {
+            if let Some(page) = &from.pages[i] {
+                self.pages[i] = Some(page.share()?);
+            }
+        }
+        Ok(())
     }
 
     /// Maps a page of zeros that may be written. Own rule.
@@ -480,17 +496,4 @@ fn vacant() -> [Option<Page>; PAGES]
         None, None, None, None, None, None, None, None, None, None, None, None, None, None, None,
         None,
     ]
-}
-
-/// Equal pages, which share their frames.
-fn shared(pages: &[Option<Page>; PAGES]) -> Result<[Option<Page>; PAGES], NoMemory>
-    ensures { IfOk result (λ copy. copy ≡ pages.now) }
-{
-    let mut copy = vacant();
-    for i in 0..PAGES {
-        if let Some(page) = &pages[i] {
-            copy[i] = Some(page.share()?);
-        }
-    }
-    Ok(copy)
 }

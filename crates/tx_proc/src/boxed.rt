@@ -1,5 +1,6 @@
 //! What has a place of its own: a process, and a frame that is exchanged.
-ghost use Rattle.std.specs.Prelude.{◌≡◌, IfOk};
+ghost use Rattle.std.specs.Prelude.{◌≡◌, IfOk, OnOk};
+ghost use Rattle.tx_model.specs.Memory.{no_memory};
 ghost use Rattle.tx_proc.specs.Parts.{edited_once, part_of, frames_swapped, frame_given, with_pending, HasPlace};
 ghost use Rattle.tx_proc.specs.declared.proc.Part.TheVariants.{Answer as SetAnswer};
 
@@ -38,6 +39,16 @@ impl BoxedProc {
         let parent = proc.parent;
         let proc = Box::new(alloc, proc)?;
         Ok(BoxedProc { parent, proc })
+    }
+
+    /// Shares the frames of the pages of another process, where this one has no page.
+    ///
+    /// NoMemory where a frame can't be shared again. Some of the pages may then be there.
+    pub fn share_pages(&mut self, from: &Proc) -> Result<(), NoMemory>
+        requires { self.old.space ≡ no_memory }
+        ensures { OnOk result (self.new ≡ record self.old { space = from.now.space }) }
+    {
+        self.proc.space.share(&from.space)
     }
 
     /// The process.

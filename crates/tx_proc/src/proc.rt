@@ -1,5 +1,6 @@
 //! What a process has, and one part of it with its old or new value.
 ghost use Rattle.std.specs.Prelude.{◌≡◌};
+ghost use Rattle.tx_model.specs.Memory.{no_memory};
 ghost use Rattle.tx_model.specs.State.{bare_process, booted_process};
 ghost use Rattle.tx_proc.specs.Parts.{edited_once, part_of, queue_swapped, queue_given, HasPlace};
 
@@ -45,12 +46,12 @@ impl Proc {
         Proc::bare(parent, None, Cred::root())
     }
 
-    /// The child that a fork of the process makes, whose parent it is by this number and whose memory
-    /// this is: a copy with the answer 0 at the point after the call, to which no signal is pending
+    /// The child that a fork of the process makes, whose parent it is by this number, without its
+    /// pages: a copy with the answer 0 at the point after the call, to which no signal is pending
     /// (POSIX.1-2017, XSH, fork()).
-    pub fn child(&self, parent: Pid, space: Space) -> Proc
+    pub fn child(&self, parent: Pid) -> Proc
         ensures { process_of result
-            ≡ record (child_of parent.0 (process_of self.now)) { memory = space } }
+            ≡ record (child_of parent.0 (process_of self.now)) { memory = no_memory } }
     {
         let answer = Answer::at(self.regs.point, 0);
         Proc {
@@ -62,7 +63,7 @@ impl Proc {
             parent,
             status: self.status,
             cred: self.cred,
-            space,
+            space: Space::new(),
             descriptors: self.descriptors.copy(),
             mask: self.mask,
             actions: self.actions.copy(),

@@ -1,4 +1,4 @@
-use Rattle.std.proofs.Common.{◌≡◌, ◌<◌, ◌≤◌, ℤ, w64, arith, rules, sym, ap, ◌∙◌}
+use Rattle.std.proofs.Common.{◌≤◌, ℤ, w64, rules, sym, ap, ◌∙◌}
 use Rattle.std.proofs.lemmas.Int.{to_z-of_z}
 use Rattle.tx_base.specs.Numbers.{below}
 use Rattle.tx_kernel.specs.Actors.{me_of}

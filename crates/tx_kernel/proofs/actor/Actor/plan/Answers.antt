@@ -11,8 +11,8 @@ use Rattle.tx_kernel.proofs.actor.Actor.plan.Goals as goal
 pub returns-in-Call-clause-ok : goal.returns-in-Call-clause-ok
 returns-in-Call-clause-ok c =
     let actor = c.args.self.now in
-    subst (λ (act : Act). IfOk c.plan_call.result (λ planned. PlansEvent actor c.args.log.now c.plan_call.new.log planned (event_of (inside_of actor.inside) actor.pid act))) (sym c.in-Call.is)
-    (plans_as actor (page_of_call c.in-Call.call.now) _ (of_call c.in-Call.call.now) c.args.log.now c.plan_call.new.log c.requires c.plan_call.result c.plan_call.ensures.ok)
+    subst (λ (act : Act). IfOk c.plan_call.result (λ outcome. PlansEvent actor c.args.log.now c.plan_call.new.log (record { outcome = outcome; sends = c.plan_call.new.sends }) (event_of (inside_of actor.inside) actor.pid act))) (sym c.in-Call.is)
+    (plans_as actor (page_of_call c.in-Call.call.now) _ (of_call c.in-Call.call.now) c.args.log.now c.plan_call.new.log c.plan_call.new.sends c.requires c.plan_call.result c.plan_call.ensures.ok)
 
 pub returns-in-Call-clause-refused : goal.returns-in-Call-clause-refused
 returns-in-Call-clause-refused c =
@@ -23,8 +23,8 @@ returns-in-Call-clause-refused c =
 pub returns-in-Delivery-clause-ok : goal.returns-in-Delivery-clause-ok
 returns-in-Delivery-clause-ok c =
     let actor = c.args.self.now in
-    subst (λ (act : Act). IfOk c.plan_delivery.result (λ planned. PlansEvent actor c.args.log.now c.plan_delivery.new.log planned (event_of (inside_of actor.inside) actor.pid act))) (sym c.in-Delivery.is)
-    (plans_as actor (delivery_page c.in-Delivery.signo.0) _ (of_delivery c.in-Delivery.signo) c.args.log.now c.plan_delivery.new.log c.requires c.plan_delivery.result c.plan_delivery.ensures.ok)
+    subst (λ (act : Act). IfOk c.plan_delivery.result (λ outcome. PlansEvent actor c.args.log.now c.plan_delivery.new.log (record { outcome = outcome; sends = c.plan_delivery.new.sends }) (event_of (inside_of actor.inside) actor.pid act))) (sym c.in-Delivery.is)
+    (plans_as actor (delivery_page c.in-Delivery.signo.0) _ (of_delivery c.in-Delivery.signo) c.args.log.now c.plan_delivery.new.log c.plan_delivery.new.sends c.requires c.plan_delivery.result c.plan_delivery.ensures.ok)
 
 pub returns-in-Delivery-clause-refused : goal.returns-in-Delivery-clause-refused
 returns-in-Delivery-clause-refused c =

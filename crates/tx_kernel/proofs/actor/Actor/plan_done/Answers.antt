@@ -7,5 +7,5 @@ use Rattle.tx_kernel.proofs.actor.Actor.plan_done.Goals as goal
 
 pub returns-clause-ok : goal.returns-clause-ok
 returns-clause-ok c objects =
-    rw c.quiet.ensures (own_plans c.laws.ensures c.args.self.now c.args.log.now c.plan_answer.new.log c.in_ok-outcome.outcome (effect_by c.args.self.now (λ d. answers c.args.ret)) objects c.sized.ensures c.requires
-    (simp (to_z-of_z w64 c.args.ret c.ranges.ret) at c.in_ok-outcome.ensures.ok))
+    own_plans c.laws.ensures c.args.self.now c.args.log.now c.plan_answer.new.log c.in_ok-plan_answer.field-0 (effect_by c.args.self.now (λ d. answers c.args.ret)) objects c.sized.ensures c.requires
+    (simp (to_z-of_z w64 c.args.ret c.ranges.ret) at c.in_ok-plan_answer.ensures.ok)

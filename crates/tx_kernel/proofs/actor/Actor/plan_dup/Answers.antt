@@ -17,7 +17,7 @@ returns-in_ok-push_answer-in-Ok-clause-ok c =
     let plan = c.in-Ok.plan in
     let below = c.in-Ok.ensures.numbers.0.0 in
     let as_ret = to_z_pos w64 plan.name.fd (omega (arith, below)) in
-    rw (c.quiet.ensures, as_ret) (simp (to_z-of_z w64 c.args.fd c.ranges.fd) at (dup_plan c.laws.ensures c.args.self.now c.args.log.now c.push_name.new.log c.push_desc.new.log c.push_answer.new.log (to_z w64 (of_z w64 c.args.fd)) plan c.sized.ensures c.requires
+    rw as_ret (simp (to_z-of_z w64 c.args.fd c.ranges.fd) at (dup_plan c.laws.ensures c.args.self.now c.args.log.now c.push_name.new.log c.push_desc.new.log c.push_answer.new.log (to_z w64 (of_z w64 c.args.fd)) plan c.sized.ensures c.requires
     c.in-Ok.ensures.answer c.in-Ok.ensures.descriptions c.in-Ok.ensures.counts c.in-Ok.ensures.named c.in-Ok.ensures.numbers
     c.in_ok-push_name-in-Ok.ensures.ok c.in_ok-push_desc-in-Ok.ensures.ok (rw as_ret at c.in_ok-push_answer-in-Ok.ensures.ok)))
 

@@ -24,7 +24,7 @@ returns-in_ok-push_answer-in-Ok-clause-ok c =
     let plan = c.in-Ok.plan in
     let below = c.in-Ok.ensures.fd in
     let as_ret = to_z_pos w64 plan.renamed.fd (omega (arith, below)) in
-    rw (c.quiet.ensures, as_ret) (simp (to_z-of_z w64 c.args.fd c.ranges.fd, to_z-of_z w64 c.args.other c.ranges.other) at
+    rw as_ret (simp (to_z-of_z w64 c.args.fd c.ranges.fd, to_z-of_z w64 c.args.other c.ranges.other) at
     (dup2_plan c.laws.ensures c.args.self.now c.args.log.now c.push_rename.new.log c.push_answer.new.log
     (to_z w64 (of_z w64 c.args.fd)) (to_z w64 (of_z w64 c.args.other)) plan.renamed plan.rename c.sized.ensures c.requires
     c.in-Ok.ensures.answer c.in-Ok.ensures.descriptions c.in-Ok.ensures.counts c.in-Ok.ensures.gone c.in-Ok.ensures.changed c.in-Ok.ensures.apart c.in-Ok.ensures.left c.in-Ok.ensures.numbers

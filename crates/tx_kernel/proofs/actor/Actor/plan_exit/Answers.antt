@@ -1,23 +1,18 @@
-use Rattle.std.proofs.Common.{List, w64, ap, ◌∙◌}
+use Rattle.std.proofs.Common.{w64, ap, ◌∙◌}
 use Rattle.std.proofs.lemmas.Int.{to_z-of_z}
 use Rattle.std.proofs.lemmas.Result.{IfOk-weaker}
-use Rattle.tx_base.specs.declared.errors.Errno.TheVariants.{NotPermitted}
 use Rattle.tx_kernel.proofs.Exited.{exit_ends, exit_fails, exit_names}
 use Rattle.tx_kernel.specs.Actors.{effect_by, names_by}
-use Rattle.tx_kernel.specs.Plans.{Plans}
+use Rattle.tx_kernel.specs.Plans.{Plans, quiet}
 use Rattle.tx_model.specs.Book.{exit}
-use Rattle.tx_model.specs.Forms.{fails, does}
+use Rattle.tx_model.specs.Forms.{does}
 use Rattle.tx_model.specs.Processes.{ending, ending_objects, exit_status}
-use Rattle.tx_model.specs.State.{Object, State}
 use Rattle.tx_kernel.proofs.actor.Actor.plan_exit.Goals as goal
 
 pub returns-then-self-eq1-clause-ok : goal.returns-then-self-eq1-clause-ok
 returns-then-self-eq1-clause-ok c =
     let actor = c.args.self.now in
-    IfOk-weaker c.plan_failure.result (λ planned. (os : State → List Object) → Plans actor c.args.log.now c.plan_failure.new.log planned (effect_by actor (λ d. fails NotPermitted)) os)
-    (λ planned. Plans actor c.args.log.now c.plan_failure.new.log planned (effect_by actor (exit c.args.status)) (exit_names actor))
-    (λ planned plans. exit_fails actor c.args.log.now c.plan_failure.new.log planned c.args.status c.if-self-eq1.true (plans (exit_names actor)))
-    c.plan_failure.ensures.ok
+    rw c.quiet.ensures (exit_fails actor c.args.log.now c.plan_failure.new.log (quiet c.in_ok-outcome.outcome) c.args.status c.if-self-eq1.true (c.in_ok-outcome.ensures.ok (exit_names actor)))
 
 pub returns-clause-ok : goal.returns-clause-ok
 returns-clause-ok c =

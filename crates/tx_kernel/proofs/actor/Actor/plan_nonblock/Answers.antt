@@ -14,10 +14,10 @@ plan_nonblock-requires c =
 
 pub returns-in_ok-push_answer-in-Ok-clause-ok : goal.returns-in_ok-push_answer-in-Ok-clause-ok
 returns-in_ok-push_answer-in-Ok-clause-ok c =
-    rw c.quiet.ensures (simp (to_z-of_z w64 c.args.fd c.ranges.fd) at (nonblock_plan c.laws.ensures c.args.self.now c.args.log.now c.push_desc.new.log c.push_answer.new.log
+    simp (to_z-of_z w64 c.args.fd c.ranges.fd) at (nonblock_plan c.laws.ensures c.args.self.now c.args.log.now c.push_desc.new.log c.push_answer.new.log
     (to_z w64 (of_z w64 c.args.fd)) c.args.on c.in-Ok.new c.sized.ensures c.requires
     c.in-Ok.ensures.answer c.in-Ok.ensures.descriptions c.in-Ok.ensures.counts c.in-Ok.ensures.named c.in-Ok.ensures.numbers
-    c.in_ok-push_desc-in-Ok.ensures.ok c.in_ok-push_answer-in-Ok.ensures.ok))
+    c.in_ok-push_desc-in-Ok.ensures.ok c.in_ok-push_answer-in-Ok.ensures.ok)
 
 pub returns-in-Err-clause-ok : goal.returns-in-Err-clause-ok
 returns-in-Err-clause-ok c =

@@ -25,10 +25,10 @@ plan_pipe-requires-clause-write_in c = (good_choice c.args.pipe.0 c.args.read.0 
 
 pub returns-in_ok-push_pipe-in-Ok-clause-ok : goal.returns-in_ok-push_pipe-in-Ok-clause-ok
 returns-in_ok-push_pipe-in-Ok-clause-ok c =
-    rw c.quiet.ensures (pipe_plan c.laws.ensures c.args.self.now c.args.log.now c.push_pipe.new.log c.args.pipe c.args.read c.args.write c.in-Ok.plan c.sized.ensures c.sized-2.ensures c.requires
+    pipe_plan c.laws.ensures c.args.self.now c.args.log.now c.push_pipe.new.log c.args.pipe c.args.read c.args.write c.in-Ok.plan c.sized.ensures c.sized-2.ensures c.requires
     (good_choice c.args.pipe.0 c.args.read.0 c.args.write.0 (c.if-is_bad_pipe.ensures 0)).0
     (free_numbers c.args.self.now c.args.pipe.0 c.args.read.0 c.args.write.0 (λ starter. []) c.sized.ensures (sym (c.if-has_pipe_in_use.ensures (λ starter. []))))
-    c.in-Ok.ensures.answer c.in-Ok.ensures.descriptions c.in-Ok.ensures.counts c.in-Ok.ensures.named c.in-Ok.ensures.numbers c.in_ok-push_pipe-in-Ok.ensures.ok)
+    c.in-Ok.ensures.answer c.in-Ok.ensures.descriptions c.in-Ok.ensures.counts c.in-Ok.ensures.named c.in-Ok.ensures.numbers c.in_ok-push_pipe-in-Ok.ensures.ok
 
 pub returns-in-Err-clause-ok : goal.returns-in-Err-clause-ok
 returns-in-Err-clause-ok c =

@@ -22,7 +22,7 @@ returns-in_ok-push_answer-in-Ok-Takes-clause-ok c =
     let held = ready.1.held in
     let fits = ready.1.fits in
     let as_ret = to_z_pos w64 c.in-Ok-Takes.n (omega (arith, held, fits)) in
-    rw (c.quiet.ensures, as_ret) (take_plan c.laws.ensures me c.args.log.now c.push_take.new.log c.push_answer.new.log c.args.fd c.args.address c.args.count c.in-Ok-Takes.pipe c.in-Ok-Takes.n c.sized.ensures c.requires
+    rw as_ret (take_plan c.laws.ensures me c.args.log.now c.push_take.new.log c.push_answer.new.log c.args.fd c.args.address c.args.count c.in-Ok-Takes.pipe c.in-Ok-Takes.n c.sized.ensures c.requires
     (λ held. simp (to_z-of_z w64 c.args.fd c.ranges.fd, to_z-of_z w64 c.args.address c.ranges.address, to_z-of_z w64 c.args.count c.ranges.count) at
     (rw c.in-Ok-Takes.field-0-is at (c.in-Ok-Takes.ensures.effect held))) ready.0 ready.1
     (simp (to_z-of_z w64 c.args.address c.ranges.address) at c.in_ok-push_take-in-Ok-Takes.ensures.ok) (rw as_ret at c.in_ok-push_answer-in-Ok-Takes.ensures.ok))

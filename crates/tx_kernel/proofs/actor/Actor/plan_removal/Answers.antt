@@ -16,7 +16,7 @@ returns-clause-ok c =
     let kept : to_z w64 c.args.status ≡ pos c.args.status = omega (arith, ints) in
     let told : to_z w64 c.args.child.0 ≡ pos c.args.child.0 = omega (arith, ints) in
     subst (λ (planned : Planned). Plans c.args.self.now c.args.log.now c.push_answer.new.log planned (effect_by c.args.self.now (removes c.args.child.0 c.args.status)) (λ S. TheProc c.args.child.0 ∷ []))
-    (sym (c.quiet.ensures ∙ ap (λ (r : ℤ). quiet (Done r)) told))
+    (sym (ap (λ (r : ℤ). quiet (Done r)) told))
     (removal_plans c.laws.ensures c.args.self.now c.args.child c.args.status c.args.log.now c.push.new.self c.push-2.new.log c.push_answer.new.log c.sized.ensures c.requires.actor c.requires.ended
     c.in_ok-push.ensures.ok
     (c.in_ok-push-2.ensures.ok ∙ ap (λ (v : ℤ). c.push.new.self ++ Part c.args.self.now.pid (SetRegister (record { number = 0; value = v })) ∷ []) kept)

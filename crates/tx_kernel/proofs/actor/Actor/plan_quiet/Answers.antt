@@ -7,25 +7,20 @@ use Rattle.tx_change.specs.declared.change.Change.{Change}
 use Rattle.tx_kernel.proofs.AnyCall.{chooses_nothing}
 use Rattle.tx_kernel.proofs.OwnPlans.{own_plans}
 use Rattle.tx_kernel.specs.Actors.{effect_by, names_by}
-use Rattle.tx_kernel.specs.Plans.{Plans}
+use Rattle.tx_kernel.specs.Plans.{Plans, quiet}
 use Rattle.tx_kernel.specs.declared.actor.Actor.{Actor}
-use Rattle.tx_kernel.specs.declared.planned.Planned.{Planned}
+use Rattle.tx_kernel.specs.declared.planned.Outcome.{Outcome}
 use Rattle.tx_model.specs.Answer.{is_bad_choice}
 use Rattle.tx_model.specs.Book.{page_of_call}
-use Rattle.tx_kernel.proofs.actor.Actor.plan_common.Goals as goal
+use Rattle.tx_kernel.proofs.actor.Actor.plan_quiet.Goals as goal
 
 -- what was planned is the plan of the call
-abbrev PlansCall : Actor → List Change → List Change → Call → Planned → Type 0
-PlansCall actor before now call planned = Plans actor before now planned (effect_by actor (page_of_call call).outcome) (names_by actor (page_of_call call).names)
+abbrev PlansCall : Actor → List Change → List Change → Call → Outcome → Type 0
+PlansCall actor before now call outcome = Plans actor before now (quiet outcome) (effect_by actor (page_of_call call).outcome) (names_by actor (page_of_call call).names)
 
 pub returns-in-Fork-clause-ok : goal.returns-in-Fork-clause-ok
 returns-in-Fork-clause-ok c few =
     subst (λ (call : Call). IfOk c.plan_fork.result (PlansCall c.args.self.now c.args.log.now c.plan_fork.new.log call)) (sym c.in-Fork.is) c.plan_fork.ensures.ok
-
-pub returns-in-Exit-clause-ok : goal.returns-in-Exit-clause-ok
-returns-in-Exit-clause-ok c few =
-    let fits_status : FitsSigned w64 c.in-Exit.status = search rules in
-    subst (λ (call : Call). IfOk c.plan_exit.result (PlansCall c.args.self.now c.args.log.now c.plan_exit.new.log call)) (sym c.in-Exit.is) (simp (to_z-of_z w64 c.in-Exit.status fits_status) at c.plan_exit.ensures.ok)
 
 pub returns-in-Waitpid-clause-ok : goal.returns-in-Waitpid-clause-ok
 returns-in-Waitpid-clause-ok c few =
@@ -64,21 +59,13 @@ returns-in-Read-clause-ok c few =
     let fits_count : FitsSigned w64 c.in-Read.count = search rules in
     subst (λ (call : Call). IfOk c.plan_read.result (PlansCall c.args.self.now c.args.log.now c.plan_read.new.log call)) (sym c.in-Read.is) (simp (to_z-of_z w64 c.in-Read.fd fits_fd, to_z-of_z w64 c.in-Read.address fits_address, to_z-of_z w64 c.in-Read.count fits_count) at c.plan_read.ensures.ok)
 
-pub returns-in-Write-clause-ok : goal.returns-in-Write-clause-ok
-returns-in-Write-clause-ok c few =
-    let fits_fd : FitsSigned w64 c.in-Write.fd = search rules in
-    let fits_address : FitsSigned w64 c.in-Write.address = search rules in
-    let fits_count : FitsSigned w64 c.in-Write.count = search rules in
-    subst (λ (call : Call). IfOk c.plan_write.result (PlansCall c.args.self.now c.args.log.now c.plan_write.new.log call)) (sym c.in-Write.is) (simp (to_z-of_z w64 c.in-Write.fd fits_fd, to_z-of_z w64 c.in-Write.address fits_address, to_z-of_z w64 c.in-Write.count fits_count) at c.plan_write.ensures.ok)
-
-pub returns-in_ok-outcome-in_default : goal.returns-in_ok-outcome-in_default
-returns-in_ok-outcome-in_default c =
+pub returns-in_ok-plan_own-in_default : goal.returns-in_ok-plan_own-in_default
+returns-in_ok-plan_own-in_default c =
     let actor = c.args.self.now in
     let page = page_of_call c.args.call.now in
     record {
-      ok = λ few. subst (PlansCall actor c.args.log.now c.plan_own.new.log c.args.call.now) (sym c.quiet.ensures)
-          (own_plans c.laws.ensures actor c.args.log.now c.plan_own.new.log c.in_ok-outcome-in_default.outcome (effect_by actor page.outcome) (names_by actor page.names) c.sized.ensures c.requires
-          (c.in_ok-outcome-in_default.ensures.ok (search rules)));
+      ok = λ few. own_plans c.laws.ensures actor c.args.log.now c.plan_own.new.log c.in_ok-plan_own-in_default.field-0 (effect_by actor page.outcome) (names_by actor page.names) c.sized.ensures c.requires
+          (c.in_ok-plan_own-in_default.ensures.ok (search rules));
       refused = tt;
       numbers = ap (is_bad_choice (length actor.parts.now.procs)) (chooses_nothing c.args.call.now c.in_default.not-Fork c.in_default.not-Pipe);
       log = tt;
