@@ -1,6 +1,7 @@
 pub mod Places
 pub mod Members
 pub mod Owned
+pub mod Leasts
 pub mod Rows
 pub mod Silent
 pub mod Within

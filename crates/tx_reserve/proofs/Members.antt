@@ -1,7 +1,7 @@
 -- Objects, their places, and the sets that have their bits.
 use Rattle.std.proofs.Common.{◌≡◌, ℕ, zero, suc, ◌+◌, ◌-◌, ◌*◌, ◌/◌, ◌%◌, ◌^◌, ◌<◌, ◌≤◌, Bool, true, false, not, ◌&&◌, ◌||◌, List, length, if◌then◌else◌, ◌==◌, min, max, bit_and, bit_or, w32, arith, refl, ap, ap₂, sym, ◌∙◌, subst, inl, inr, get_or, eqb-true, eq-eqb, add-one, replicate, slice_set, nat_lt, Option, Some, None, IfNone, IsTrue, ◌↔◌}
 use Rattle.std.specs.List.{sum}
-use Rattle.std.proofs.lemmas.Bool.{cases_Bool, cases_lt, both_ways, ltb-true, lt-ltb}
+use Rattle.std.proofs.lemmas.Bool.{cases_Bool, cases_lt, both_ways, ltb-true, lt-ltb, le-ltb}
 use Rattle.std.proofs.lemmas.List.{get_or-replicate, get_or-set_same, get_or-set_other, get_or_past, length-replicate}
 use Rattle.std.proofs.lemmas.Bool.Decides.{nat_tests}
 use Rattle.std.proofs.Math.Nat.{eq-zero-or-pos}
@@ -11,7 +11,7 @@ use Rattle.std.proofs.lemmas.Nat.Bits.{bit_at_and, bit_at_or, bit_at_not, bit_at
 use Rattle.std.specs.Int.{bit_at, bit_not, trailing_zeros}
 use Rattle.tx_model.specs.ObjectFacts.{same_is}
 use Rattle.tx_model.specs.State.{Object, Proc, Desc, Pipe, Held, same_object}
-use Rattle.tx_reserve.specs.Objects.{has_place, is_in, is_small, place_of, TakesOut}
+use Rattle.tx_reserve.specs.Objects.{has_place, is_in, is_small, object_at, place_of, TakesOut}
 use Rattle.tx_reserve.specs.declared.objects.Objects.{Objects}
 
 below_is_other : (a b : ℕ) → a < b → false ≡ (a == b)
@@ -242,15 +242,22 @@ one_more words i here below k lt = elim (cases_lt k i) [
   | inr after ↦ let e : k ≡ i = omega arith in rw e here
 ]
 
--- each place below 352 is that of an object
-object_of_place : (place : ℕ) → place < 352 → (o : Object) × ((is_small o ≡ true) × (place ≡ place_of o))
-object_of_place place lt = elim (cases_lt place 256) [
-  | inl proc ↦ (Proc (place + 1), (small_proc place proc, omega arith))
-  | inr above ↦ elim (cases_lt place 320) [
-    | inl desc ↦ (Desc (place - 256), (lt-ltb (place - 256) 64 (omega arith), omega arith))
-    | inr pipe ↦ (Pipe (place - 320), (lt-ltb (place - 320) 32 (omega arith), omega arith))
-  ]
+-- each place below 352 is that of its object
+pub object_at_place : (place : ℕ) → place < 352 → (is_small (object_at place) ≡ true) × (place_of (object_at place) ≡ place)
+unfolding object_at
+object_at_place place lt = elim (cases_lt place 256) [
+  | inl proc ↦ rw (lt-ltb place 256 proc) (small_proc place proc, omega arith)
+  | inr above ↦ rw (le-ltb place 256 above) (elim (cases_lt place 320) [
+    | inl desc ↦ rw (lt-ltb place 320 desc) (lt-ltb (place - 256) 64 (omega arith), omega arith)
+    | inr pipe ↦ rw (le-ltb place 320 pipe) (lt-ltb (place - 320) 32 (omega arith), omega arith)
+  ])
 ]
+
+-- and an object that there may be is that of its place
+pub object_at_is : (o : Object) (place : ℕ) → is_small o ≡ true → place ≡ place_of o → object_at place ≡ o
+object_at_is o place small is =
+    let at = object_at_place place (subst (λ (p : ℕ). p < 352) (sym is) (place_below o small)) in
+    same_is (object_at place) o (same_place (object_at place) o at.0 small ∙ eq-eqb (place_of (object_at place)) (place_of o) (at.1 ∙ is))
 
 -- whether a bit of the first so many words is set, told by a number that is 0 where none is
 pub record Tells (words : List ℕ) (count all : ℕ) : Type 0 where
@@ -283,8 +290,9 @@ empty_test objects count all most told = (
     | inl zeros ↦ eq-eqb all 0 zeros
     | inr positive ↦
         let place = told.some positive in
-        let found = object_of_place place.0 place.1.0 in
-        absurd (both_ways (is_in objects found.0) (none found.0) (sym (in_by_place objects found.0 place.0 found.1.0 found.1.1) ∙ place.1.1))
+        let o = object_at place.0 in
+        let found = object_at_place place.0 place.1.0 in
+        absurd (both_ways (is_in objects o) (none o) (sym (in_by_place objects o place.0 found.0 (sym found.1)) ∙ place.1.1))
   ],
 )
 

@@ -1,14 +1,14 @@
 -- Owners of objects, as their places say them; and what loops over a set make of them.
-use Rattle.std.proofs.Common.{◌≡◌, ℕ, ◌<◌, ◌≤◌, Bool, true, false, List, length, if◌then◌else◌, ◌==◌, nat_lt, Option, Some, None, is_some, option_map, arith, refl, ap, sym, ◌∙◌, inl, inr, get_or, eqb-true, replicate, slice_set, subst}
-use Rattle.std.proofs.lemmas.Bool.{cases_Bool, cases_lt, both_ways, eqb-false, ltb-true, ltb-false}
-use Rattle.std.proofs.lemmas.List.{get_or-replicate, get_or-set_same, get_or-set_other, get_or_past, length-replicate}
+use Rattle.std.proofs.Common.{◌≡◌, ℕ, ◌<◌, Bool, true, false, List, length, if◌then◌else◌, ◌==◌, Option, Some, None, is_some, option_map, arith, refl, ap, sym, ◌∙◌, inl, inr, get_or, eqb-true, replicate, slice_set}
+use Rattle.std.proofs.lemmas.Bool.{cases_Bool, cases_lt, both_ways, eqb-false}
+use Rattle.std.proofs.lemmas.List.{get_or-replicate, get_or-set_same, get_or-set_other, get_or_past, get_or_read_under, length-replicate}
 use Rattle.tx_base.specs.declared.names.Pid.{Pid}
-use Rattle.tx_model.specs.ObjectFacts.{same_self, same_is}
+use Rattle.tx_model.specs.ObjectFacts.{same_is}
 use Rattle.tx_model.specs.State.{Object, same_object}
-use Rattle.tx_reserve.specs.Objects.{is_in, is_small, place_of, TakesOut}
+use Rattle.tx_reserve.specs.Objects.{is_in, is_small, object_at, place_of, TakesOut}
 use Rattle.tx_reserve.specs.declared.objects.Objects.{Objects}
-use Rattle.tx_reserve.specs.Reservations.{number_of, owner_of, lesser_of, IsLeast}
-use Rattle.tx_reserve.proofs.Members.{same_place, place_below, both_same, in_small}
+use Rattle.tx_reserve.specs.Reservations.{number_of, owner_of}
+use Rattle.tx_reserve.proofs.Members.{same_place, object_at_place, place_below, both_same, in_small}
 
 -- what no number may be is nobody's
 pub owner_large : (places : List (Option Pid)) (o : Object) → is_small o ≡ false → owner_of places o ≡ None
@@ -18,6 +18,14 @@ owner_large places o large = rw large refl
 pub owner_small : (places : List (Option Pid)) (o : Object) (place : ℕ) → is_small o ≡ true → place ≡ place_of o → option_map number_of (get_or places place None) ≡ owner_of places o
 unfolding owner_of
 owner_small places o place small is = rw small (ap (λ (q : ℕ). option_map number_of (get_or places q None)) is)
+
+-- what is read at a place is the owner of its object
+pub owner_read : (places now : List (Option Pid)) (place : ℕ) (read found : Option Pid) → places ≡ now → read ≡ found
+    → length places ≡ 352 → place < 352 → read ≡ get_or places place read → owner_of now (object_at place) ≡ option_map number_of found
+owner_read places now place read found same is sized below at =
+    let object = object_at_place place below in
+    ap (λ (all : List (Option Pid)). owner_of all (object_at place)) (sym same) ∙ sym (owner_small places (object_at place) place object.0 (sym object.1))
+    ∙ ap (option_map number_of) (sym (get_or_read_under places place 352 read None at below (sym sized)) ∙ is)
 
 -- the owner in place of another
 pub owner_set : (places : List (Option Pid)) (x o : Object) (place : ℕ) (owner : Option Pid) → length places ≡ 352 → is_small x ≡ true → place ≡ place_of x
@@ -147,88 +155,6 @@ fresh_same {all} {rest} {left} {fresh} {before} x fresh_so out owned = record {
 pub fresh_all : {all rest fresh : Objects} {before : List (Option Pid)} → AreFresh all rest fresh before → ((o : Object) → is_in rest o ≡ false)
     → (o : Object) → is_in fresh o ≡ (if is_some (owner_of before o) then false else is_in all o)
 fresh_all {all} {rest} {fresh} {before} fresh_so none o = fresh_so.each o ∙ rw (none o) refl
-
--- whether the object is in the set, and not in the rest
-abbrev pub passed : Objects → Objects → Object → Bool
-passed all rest o = if is_in rest o then false else is_in all o
-
--- of no objects none has a number
-pub least_none : (all : Objects) (number : Object → Option ℕ) → IsLeast (passed all all) number None
-least_none all number o there = absurd (both_ways (passed all all o) (elim (cases_Bool (is_in all o)) [ inl e ↦ rw e refl | inr e ↦ rw e refl ]) there)
-
-least_here : (s t : ℕ) → Some s ≡ Some t → s ≤ t
-least_here s t e = let same : s ≡ t = cc in omega arith
-
-no_some : (t : ℕ) → Some t ≡ None → ⊥
-no_some t e = cc
-
-below_is : (s a t : ℕ) → s < a → a ≤ t → s ≤ t
-below_is s a t lt le = omega arith
-
-up_to : (a s t : ℕ) → a ≤ s → s ≤ t → a ≤ t
-up_to a s t le more = omega arith
-
--- of one more object
-pub least_more : (these more : Object → Bool) (number : Object → Option ℕ) (x : Object) (a b : Option ℕ) → number x ≡ a → more x ≡ true
-    → ((o : Object) → same_object o x ≡ false → more o ≡ these o) → these x ≡ false → IsLeast these number b → IsLeast more number (lesser_of a b)
-least_more these more number x None None is here same new none = λ o there. elim (cases_Bool (same_object o x)) [
-  | inl e ↦ ap number (same_is o x e) ∙ is
-  | inr e ↦ none o (sym (same o e) ∙ there)
-]
-least_more these more number x (Some s) None is here same new none = record {
-  at = x;
-  among = here;
-  has = is;
-  least = λ o t there has. elim (cases_Bool (same_object o x)) [
-    | inl e ↦ let one : Some s ≡ Some t = sym is ∙ ap number (sym (same_is o x e)) ∙ has in least_here s t one
-    | inr e ↦ absurd (no_some t (sym has ∙ none o (sym (same o e) ∙ there)))
-  ];
-}
-least_more these more number x None (Some s) is here same new least = record {
-  at = least.at;
-  among = elim (cases_Bool (same_object least.at x)) [
-    | inl e ↦ absurd (both_ways (these x) new (ap these (sym (same_is least.at x e)) ∙ least.among))
-    | inr e ↦ same least.at e ∙ least.among
-  ];
-  has = least.has;
-  least = λ o t there has. elim (cases_Bool (same_object o x)) [
-    | inl e ↦ absurd (no_some t (sym has ∙ ap number (same_is o x e) ∙ is))
-    | inr e ↦ least.least o t (sym (same o e) ∙ there) has
-  ];
-}
-least_more these more number x (Some a) (Some s) is here same new least = elim (cases_Bool (nat_lt s a)) [
-  | inl e ↦ rw e (record {
-    at = least.at;
-    among = elim (cases_Bool (same_object least.at x)) [
-      | inl f ↦ absurd (both_ways (these x) new (ap these (sym (same_is least.at x f)) ∙ least.among))
-      | inr f ↦ same least.at f ∙ least.among
-    ];
-    has = least.has;
-    least = λ o t there has. elim (cases_Bool (same_object o x)) [
-      | inl f ↦ let one : Some a ≡ Some t = sym is ∙ ap number (sym (same_is o x f)) ∙ has in below_is s a t (ltb-true s a e) (least_here a t one)
-      | inr f ↦ least.least o t (sym (same o f) ∙ there) has
-    ];
-  })
-  | inr e ↦ rw e (record {
-    at = x;
-    among = here;
-    has = is;
-    least = λ o t there has. elim (cases_Bool (same_object o x)) [
-      | inl f ↦ let one : Some a ≡ Some t = sym is ∙ ap number (sym (same_is o x f)) ∙ has in least_here a t one
-      | inr f ↦ up_to a s t (ltb-false s a e) (least.least o t (sym (same o f) ∙ there) has)
-    ];
-  })
-]
-
--- one more object is passed as it is taken out of the rest
-pub least_taken : (all : Objects) {rest left : Objects} (number : Object → Option ℕ) (x : Object) (a b next : Option ℕ) → TakesOut rest left x → is_in all x ≡ true
-    → a ≡ number x → next ≡ lesser_of a b → IsLeast (passed all rest) number b → IsLeast (passed all left) number next
-least_taken all {rest} {left} number x a b next out among is made least =
-    let P : Option ℕ → Type 0 = λ v. IsLeast (passed all left) number v in
-    let gone : is_in left x ≡ false = rw (same_self x) at (out.left x) in
-    subst P (sym made) (least_more (passed all rest) (passed all left) number x a b (sym is) (rw (gone, among) refl)
-    (λ o other. ap (λ (t : Bool). if t then false else is_in all o) (rw other at (out.left o)))
-    (rw out.was_in refl) least)
 
 owned_some : (x : Option Pid) → is_some (option_map number_of x) ≡ is_some x
 owned_some None = refl

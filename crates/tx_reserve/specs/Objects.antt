@@ -26,9 +26,18 @@ place_of (Desc n) = 256 + n
 place_of (Pipe n) = 320 + n
 place_of (Held s) = 352
 
+-- the object of a place below 352
+unfoldable pub object_at : ℕ → Object
+object_at place = if nat_lt place 256 then Proc (place + 1) else (if nat_lt place 320 then Desc (place - 256) else Pipe (place - 320))
+
 -- whether the bit of a place is set, of words of 32 bits
 unfoldable pub has_place : List ℕ → ℕ → Bool
 has_place words place = bit_at (slice_index words (place / 32)) (place % 32) == 1
+
+-- the place is in this word, and its bit is set where the word has these bits
+pub record IsInWord (word bits place : ℕ) : Type 0 where
+  pub here : place / 32 ≡ word
+  pub set : bit_at bits (place % 32) ≡ 1
 
 -- whether the object is in the set
 unfoldable pub is_in : Objects → Object → Bool

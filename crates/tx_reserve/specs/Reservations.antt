@@ -1,5 +1,5 @@
 -- Who owns which object: the starter of the transaction that reserved it.
-use Rattle.std.specs.Prelude.{◌≡◌, ℕ, ◌≤◌, Bool, true, List, Option, Some, None, if◌then◌else◌, ◌==◌, nat_lt, option_map, slice_index_or}
+use Rattle.std.specs.Prelude.{◌≡◌, ◌⊎◌, ℕ, ◌≤◌, Bool, true, List, Option, Some, None, if◌then◌else◌, ◌==◌, nat_lt, option_map, slice_index_or}
 use Rattle.tx_base.specs.declared.names.Pid.{Pid}
 use Rattle.tx_model.specs.State.{Object}
 use Rattle.tx_reserve.specs.Objects.{is_small, place_of}
@@ -23,6 +23,18 @@ abbrev pub lesser_of : Option ℕ → Option ℕ → Option ℕ
 lesser_of None b = b
 lesser_of (Some a) None = Some a
 lesser_of (Some a) (Some b) = if nat_lt b a then Some b else Some a
+
+-- the number is at most the other; one that is missing is above all
+abbrev pub IsAtMost : Option ℕ → Option ℕ → Type 0
+IsAtMost a None = Unit {0}
+IsAtMost None (Some t) = ⊥
+IsAtMost (Some s) (Some t) = s ≤ t
+
+-- the number after is the least of the one before and of those that these places have
+pub record IsLeastWith (these : ℕ → Type 0) (number : ℕ → Option ℕ) (before after : Option ℕ) : Type 0 where
+  pub from : (after ≡ before) ⊎ ((place : ℕ) × ((these place) × (number place ≡ after)))
+  pub to_before : IsAtMost after before
+  pub to_each : (place : ℕ) → these place → IsAtMost after (number place)
 
 -- one of these objects has the number, and none has a lesser one
 pub record IsLeastOf (these : Object → Bool) (number : Object → Option ℕ) (s : ℕ) : Type 0 where

@@ -1,15 +1,15 @@
 //! Sets of objects.
-ghost use Rattle.std.specs.Prelude.{◌≡◌, ◌<◌, ◌≤◌, ◌*◌, ◌↔◌, ◌||◌, ◌&&◌, ◌==◌, ℕ, true, false, not, if◌then◌else◌, sum, IsTrue, IfNone, IfSome};
+ghost use Rattle.std.specs.Prelude.{◌≡◌, ◌<◌, ◌≤◌, ◌*◌, ◌↔◌, ◌||◌, ◌&&◌, ◌==◌, ℕ, true, false, not, if◌then◌else◌, slice_index, sum, IsTrue, IfNone, IfSome};
 ghost use Rattle.tx_model.specs.State.{Object as TheObject, Proc, same_object};
 ghost use Rattle.tx_reserve.specs.Objects.{TakesOut, has_place, is_in, is_small, object_of, place_of};
 
 use tx_base::{DescNo, Pid, PipeNo};
 
 /// How many bits a word has.
-const BITS: usize = 32;
+pub(crate) const BITS: usize = 32;
 
 /// How many words there are: 8 of processes, 2 of descriptions, 1 of pipes.
-const WORDS: usize = 11;
+pub(crate) const WORDS: usize = 11;
 
 /// How many words processes have.
 const PROC_WORDS: usize = 8;
@@ -138,6 +138,14 @@ impl Objects {
     {
         let place = self.take_place(PROC_WORDS)?;
         Some(Pid(place as u16 + 1))
+    }
+
+    /// The bits of a word.
+    pub(crate) fn word(&self, word: usize) -> u32
+        requires { word < 11 }
+        ensures { result ≡ slice_index self.now.words word }
+    {
+        self.words[word]
     }
 
     /// The first place whose bit is set of the first `count` words.

@@ -1,10 +1,10 @@
 //! Who owns which object.
-ghost use Rattle.std.specs.Prelude.{◌≡◌, None, Some, false, if◌then◌else◌, is_some, option_map, length, IfOk};
+ghost use Rattle.std.specs.Prelude.{◌≡◌, ◌<◌, None, Some, false, if◌then◌else◌, is_some, option_map, length, IfOk};
 ghost use Rattle.tx_model.specs.State.{Object as TheObject, same_object};
-ghost use Rattle.tx_reserve.specs.Objects.{is_in, is_small, object_of};
-ghost use Rattle.tx_reserve.specs.Reservations.{IsLeast, lesser_of, number_of, owner_of, unless};
+ghost use Rattle.tx_reserve.specs.Objects.{IsInWord, is_in, is_small, object_at, object_of};
+ghost use Rattle.tx_reserve.specs.Reservations.{IsLeast, IsLeastWith, lesser_of, number_of, owner_of, unless};
 
-use crate::objects::{Object, Objects};
+use crate::objects::{BITS, Object, Objects, WORDS};
 use std::alloc::Global;
 use std::marker::Model;
 use tx_base::{NoMemory, Pid};
@@ -73,15 +73,40 @@ impl Reservations {
 
     /// The least other starter that owns one of the objects: the one that a busy step names. None
     /// if nobody else owns one.
+    #[inline(always)] // it has few callers, and a call costs each step that asks 20
     pub fn conflict(&self, objects: &Objects, own: Option<Pid>) -> Option<Pid>
         ensures { IsLeast (is_in objects.now)
             (λ o. unless (option_map number_of own) (owner_of self.now o))
             (option_map number_of result) }
     {
         let mut least = None;
-        let mut rest = *objects;
-        while let Some(object) = rest.pop() {
-            least = lesser(self.other_owner(object, own), least);
+        for word in 0..WORDS {
+            least = self.conflict_in_word(word, objects.word(word), own, least);
+        }
+        least
+    }
+
+    /// The least of a starter found so far and of the other ones that own objects of this word,
+    /// whose bits are `rest`.
+    #[inline(always)] // most words are 0, and a call for each would cost more
+    fn conflict_in_word(
+        &self,
+        word: usize,
+        mut rest: u32,
+        own: Option<Pid>,
+        mut least: Option<Pid>,
+    ) -> Option<Pid>
+        requires { word < 11 }
+        ensures { IsLeastWith (IsInWord word rest)
+            (λ place. unless (option_map number_of own) (owner_of self.now (object_at place)))
+            (option_map number_of least) (option_map number_of result) }
+    {
+        while rest != 0 {
+            let bit = rest.trailing_zeros() as usize;
+            rest &= !(1 << bit);
+            if let Some(owner) = self.other_owner_at(BITS * word + bit, own) {
+                least = lesser(Some(owner), least);
+            }
         }
         least
     }
@@ -92,7 +117,16 @@ impl Reservations {
         ensures { option_map number_of result
             ≡ unless (option_map number_of own) (owner_of self.now (object_of object)) }
     {
-        let owner = self.owner(object)?;
+        self.other_owner_at(object.place()?, own)
+    }
+
+    /// The owner of the object of a place, unless it is this one.
+    fn other_owner_at(&self, place: usize, own: Option<Pid>) -> Option<Pid>
+        requires { place < 352 }
+        ensures { option_map number_of result
+            ≡ unless (option_map number_of own) (owner_of self.now (object_at place)) }
+    {
+        let owner = self.places[place]?;
         if own == Some(owner) {
             None
         } else {
