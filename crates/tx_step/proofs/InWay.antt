@@ -233,3 +233,8 @@ module _ (k : Content) (kept : IsKept (content_of k)) (own : Option ℕ) (footpr
       (lesser_least owns (among (gives_two_answers k own ms) ms) a b (owners_least a owner) (subst (IsLeastThat (among (gives_two_answers k own ms) ms)) (sym target) (targets_least (gives_two_answers k own ms) ms))))
       way_within
       ∙ sym (law (content_of k) event kept)
+
+-- the lesser of a number and none
+pub lesser_none : (x : Option ℕ) → lesser_of x None ≡ x
+lesser_none None = refl
+lesser_none (Some a) = refl

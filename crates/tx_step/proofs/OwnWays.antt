@@ -11,7 +11,7 @@ use Rattle.tx_step.proofs.InWay.{starter_in_way_is}
 use Rattle.tx_step.proofs.StepSends.{call_posts}
 use Rattle.tx_step.specs.InWay.{IsOfMember}
 use Rattle.tx_step.specs.Roles.{role_as}
-use Rattle.tx_step.specs.Ways.{ConcernsItself}
+use Rattle.tx_step.specs.Ways.{ConcernsItself, SendsNothing, held_at_commit}
 use Rattle.tx_step.specs.declared.roles.StepRole.{StepRole}
 use Rattle.tx_step.specs.declared.roles.StepRole.TheVariants as step
 use Rattle.tx_laws.specs.TwoStates.{states_view}
@@ -104,12 +104,20 @@ own_set k pid called set itself is = by ((now_of k).procs pid.0)
     by None = is
     by (Some me) = subst (λ (os : List Object). IsSetOf set (Proc pid.0 ∷ os)) (sym (itself.names (table_of k.parts k.marks) pid.0 me (now_of k))) is
 
--- and, where it commits nothing, sends nothing
-pub own_quiet : (k : Content) (pid : Pid) (called : Call) (role : StepRole) → ConcernsItself called → IsRunning (slot_at k.parts.procs pid.0) →
+-- where it commits nothing, nothing that is held goes with it
+pub quiet_last : (k : Content) (role : StepRole) → ((starter : Pid) → role ≡ step.Commits starter → ⊥) → None ≡ held_at_commit k role
+quiet_last k step.Outside other = refl
+quiet_last k (step.Begins defers) other = refl
+quiet_last k (step.Inside starter progress) other = refl
+quiet_last k (step.Commits starter) other = absurd (other starter refl)
+quiet_last k (step.Aborts starter) other = refl
+
+-- the event of a call that sends nothing, where it commits nothing, sends nothing
+pub quiet_event : (k : Content) (pid : Pid) (called : Call) (role : StepRole) → SendsNothing called → IsRunning (slot_at k.parts.procs pid.0) →
     ((starter : Pid) → role ≡ step.Commits starter → ⊥) → role_as pid.0 role ≡ role_on (view_of k) (Calls pid called) →
     (effect (event_on (view_of k) (Calls pid called)) (now_of k)).sends ≡ []
 unfolding view_of states_view
-own_quiet k pid called role itself running other is =
+quiet_event k pid called role quiet running other is =
     let t : Table = table_at k.marks in
     let mark : Option Mark = slot_at k.marks pid.0 in
     ap (λ r. (effect (event_in r (kind_event t pid.0 (Calls pid called) (kind_of called) mark)) (now_of k)).sends) (sym is)
@@ -120,7 +128,7 @@ own_quiet k pid called role itself running other is =
     at None e runs = absurd runs
     at (Some proc) e runs =
         let posts = call_posts (table_at k.marks) pid called (slot_at k.marks pid.0) (now_of k) (process_of proc) (ap process_in e) runs in
-        posts.sends ∙ itself.sends (inside_by (table_at k.marks) (slot_at k.marks pid.0)) pid.0 (process_of proc) (now_of k)
+        posts.sends ∙ quiet (inside_by (table_at k.marks) (slot_at k.marks pid.0)) pid.0 (process_of proc) (now_of k)
 
     by : (role : StepRole) → ((starter : Pid) → role ≡ step.Commits starter → ⊥) →
         (effect (event_in (role_as pid.0 role) (kind_event (table_at k.marks) pid.0 (Calls pid called) (kind_of called) (slot_at k.marks pid.0))) (now_of k)).sends

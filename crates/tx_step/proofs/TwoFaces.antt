@@ -8,7 +8,7 @@ use Rattle.tx_base.specs.declared.limits.TheConstants.{QUEUED}
 use Rattle.tx_cred.specs.Cred.{ids_of}
 use Rattle.std.specs.Ordering.{int_eq}
 use Rattle.tx_base.specs.declared.names.Sending.{Sending as TheSending}
-use Rattle.tx_step.specs.Faces.{difference, face_as, faces_difference, is_target, posted_to, queued_at, starter_difference}
+use Rattle.tx_step.specs.Faces.{both_posted_to, difference, face_as, faces_difference, is_target, posted_to, queued_at, starter_difference}
 use Rattle.tx_step.specs.TwoAnswers.{answered_twice}
 use Rattle.tx_step.specs.declared.differing.TwoAnswers.{TwoAnswers}
 use Rattle.tx_step.specs.declared.faces.Faces.{Faces}
@@ -73,15 +73,20 @@ queued_told m face = by (may_signal m.from (ids_of face.ids)) (is_quiet_at m (fa
     by false true = refl
     by false false = refl
 
+-- the tests come out the same in another order
+in_turn : (n : ℕ) (b r l : Bool) → (if b then (if r then (if l then n + 1 else n) else n) else n) ≡ (if r then (if l then (if b then n + 1 else n) else n) else n)
+in_turn n true true true = refl
+in_turn n true true false = refl
+in_turn n true false l = refl
+in_turn n false true true = refl
+in_turn n false true false = refl
+in_turn n false false l = refl
+
 -- the face after a post, where it is known how the tests come out
 pub face_after : (m : Sending) (face : Face) (b r l : Bool) → reaches_at m face ≡ b → is_realtime m.signo ≡ r → nat_lt face.queued QUEUED ≡ l →
-    record face { queued = if b then (if r then (if l then face.queued + 1 else face.queued) else face.queued) else face.queued } ≡ posted_to m face
+    record face { queued = if r then (if l then (if b then face.queued + 1 else face.queued) else face.queued) else face.queued } ≡ posted_to m face
 face_after m face b r l hb hr hl =
-    ap (λ (n : ℕ). record face { queued = n }) (sym (queued_told m face ∙ (λ j. if hb j then (if hr j then (if hl j then face.queued + 1 else face.queued) else face.queued) else face.queued)))
-
--- both faces after a post
-abbrev pub posted_both : Sending → Faces → Faces
-posted_both m faces = record { present = option_map (posted_to m) faces.present; kept = posted_to m faces.kept }
+    ap (λ (n : ℕ). record face { queued = n }) (sym (queued_told m face ∙ (λ j. if hb j then (if hr j then (if hl j then face.queued + 1 else face.queued) else face.queued) else face.queued) ∙ in_turn face.queued b r l))
 
 -- a send to another
 pub post_elsewhere : (s : ℕ) (m : Sending) (ms : List Sending) (faces : Faces) → (m.target == s) ≡ false → difference s (m ∷ ms) faces ≡ difference s ms faces
@@ -91,23 +96,23 @@ post_elsewhere s m ms faces h = rw h refl
 -- a send to it, which has these answers
 post_here : (s : ℕ) (m : Sending) (ms : List Sending) (faces : Faces) (x y : ℤ) → (m.target == s) ≡ true →
     x ≡ answer_at m (option_map face_as faces.present) (queued_at faces.present) → y ≡ answer_at m (Some (face_as faces.kept)) faces.kept.queued →
-    difference s (m ∷ ms) faces ≡ (if int_eq x y then difference s ms (posted_both m faces) else Some (answered_twice m x y))
+    difference s (m ∷ ms) faces ≡ (if int_eq x y then difference s ms (both_posted_to m faces) else Some (answered_twice m x y))
 unfolding faces_difference
 post_here s m ms faces x y here now kept = rw here (λ j. if int_eq (sym now j) (sym kept j) then posted faces.present j else Some (answered_twice m (sym now j) (sym kept j)))
   where
     posted : (present : Option Face) →
         faces_difference s ms (option_map face_as present) (queued_after m (option_map face_as present) (queued_at present)) (Some (face_as faces.kept)) (queued_after m (Some (face_as faces.kept)) faces.kept.queued)
-        ≡ difference s ms (posted_both m (record faces { present = present }))
+        ≡ difference s ms (both_posted_to m (record faces { present = present }))
     posted None = refl
     posted (Some face) = refl
 
 -- one whose answers are the same, and one whose are not
 pub post_same : (s : ℕ) (m : Sending) (ms : List Sending) (faces : Faces) (x y : ℤ) → (m.target == s) ≡ true →
     x ≡ answer_at m (option_map face_as faces.present) (queued_at faces.present) → y ≡ answer_at m (Some (face_as faces.kept)) faces.kept.queued →
-    x ≡ y → difference s (m ∷ ms) faces ≡ difference s ms (posted_both m faces)
+    x ≡ y → difference s (m ∷ ms) faces ≡ difference s ms (both_posted_to m faces)
 post_same s m ms faces x y here now kept same =
     post_here s m ms faces x y here now kept
-    ∙ ap (λ (b : Bool). if b then difference s ms (posted_both m faces) else Some (answered_twice m x y)) ((Decides-int_eq x y).1 same)
+    ∙ ap (λ (b : Bool). if b then difference s ms (both_posted_to m faces) else Some (answered_twice m x y)) ((Decides-int_eq x y).1 same)
 
 pub post_otherwise : (s : ℕ) (m : Sending) (ms : List Sending) (faces : Faces) (x y : ℤ) → (m.target == s) ≡ true →
     x ≡ answer_at m (option_map face_as faces.present) (queued_at faces.present) → y ≡ answer_at m (Some (face_as faces.kept)) faces.kept.queued →
@@ -115,7 +120,7 @@ pub post_otherwise : (s : ℕ) (m : Sending) (ms : List Sending) (faces : Faces)
 post_otherwise s m ms faces x y here now kept other =
     post_here s m ms faces x y here now kept ∙ by (int_eq x y) (λ e. other ((Decides-int_eq x y).0 e))
   where
-    by : (b : Bool) → (b ≡ true → ⊥) → (if b then difference s ms (posted_both m faces) else Some (answered_twice m x y)) ≡ Some (answered_twice m x y)
+    by : (b : Bool) → (b ≡ true → ⊥) → (if b then difference s ms (both_posted_to m faces) else Some (answered_twice m x y)) ≡ Some (answered_twice m x y)
     by true never = absurd (never refl)
     by false never = refl
 

@@ -27,6 +27,10 @@ queued_at (Some face) = face.queued
 abbrev pub posted_to : TheSending → Face → Face
 posted_to m face = record face { queued = queued_after m (Some (face_as face)) face.queued }
 
+-- both faces after a post
+abbrev pub both_posted_to : TheSending → Faces → Faces
+both_posted_to m faces = record { present = option_map (posted_to m) faces.present; kept = posted_to m faces.kept }
+
 -- what a step hands out to be held
 abbrev pub sent_at_commit : Sends → List TheSending
 sent_at_commit Nothing = []

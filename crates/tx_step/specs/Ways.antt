@@ -46,10 +46,14 @@ pub record IsOwnActor (k : Content) (pid : Pid) (actor : Actor) : Type 0 where
   pub inside : inside_of actor.inside ≡ inside_by (table_at k.marks) (slot_at k.marks pid.0)
   pub counts : CountsHeld actor.inside (held_of k)
 
+-- whoever makes the call, it sends nothing
+abbrev pub SendsNothing : Call → Type 0
+SendsNothing call = (inside : Option TheInside) (p : ℕ) (me : Process) (S : State) → (call_effect inside p call me S).sends ≡ []
+
 -- whoever makes the call, it names only its process and sends nothing
 pub record ConcernsItself (call : Call) : Type 0 where
   pub names : (t : Table) (p : ℕ) (me : Process) (S : State) → call_row t p call me S ≡ []
-  pub sends : (inside : Option TheInside) (p : ℕ) (me : Process) (S : State) → (call_effect inside p call me S).sends ≡ []
+  pub sends : SendsNothing call
 
 -- what is posted with a call, by its role and by what it sends first
 abbrev pub CallIsPosted : Type 0

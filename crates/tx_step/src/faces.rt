@@ -1,8 +1,8 @@
 //! How sends to the starter of a live transaction are answered, now and after its abort.
 ghost use Rattle.std.specs.Option.{option_or};
-ghost use Rattle.std.specs.Prelude.{◌≡◌, ◌∷◌, ◌++◌, List, length, map, option_map};
+ghost use Rattle.std.specs.Prelude.{◌≡◌, ◌∷◌, [], ◌++◌, List, length, map, option_map};
 ghost use Rattle.tx_base.specs.Slots.{slot_at};
-ghost use Rattle.tx_step.specs.Faces.{difference, face_as, posted_to, queued_at, sent, starter_difference};
+ghost use Rattle.tx_step.specs.Faces.{both_posted_to, difference, face_as, posted_to, queued_at, sent, starter_difference};
 ghost use Rattle.tx_kernel.specs.Plans.{sending_of};
 ghost use Rattle.tx_model.specs.State.{Sending as TheSending};
 ghost use Rattle.tx_proc.specs.Parts.{process_in};
@@ -87,12 +87,24 @@ impl Faces {
         if sending.target != pid {
             return None;
         }
-        let present = number(answer(self.present, sending));
-        let after_abort = number(self.kept.answer(sending));
+        let answers = self.answers(sending);
         *self = Faces {
             present: after_if(self.present, sending),
             kept: after(self.kept, sending),
         };
+        answers
+    }
+
+    /// The answers to a signal for the process, if they differ. Nothing is posted.
+    pub fn answers(&self, sending: &Sending) -> Option<TwoAnswers>
+        ensures first { (ms : List TheSending) →
+            difference sending.now.target.0 (sending_of sending.now ∷ ms) self.now
+            ≡ option_or result (difference sending.now.target.0 ms
+            (both_posted_to (sending_of sending.now) self.now)) }
+        ensures alone { difference sending.now.target.0 (sending_of sending.now ∷ []) self.now ≡ result }
+    {
+        let present = number(answer(self.present, sending));
+        let after_abort = number(self.kept.answer(sending));
         if present == after_abort {
             return None;
         }
@@ -153,7 +165,7 @@ fn after(face: Face, sending: &Sending) -> Face
     ensures { result ≡ posted_to (sending_of sending.now) face }
 {
     let mut face = face;
-    if face.reaches(sending) && is_realtime(sending.signo) && face.queued < QUEUED {
+    if is_realtime(sending.signo) && face.queued < QUEUED && face.reaches(sending) {
         face.queued += 1;
     }
     face

@@ -1,9 +1,10 @@
 //! Who is in the way of a step.
-ghost use Rattle.std.specs.Prelude.{◌≡◌, option_map};
+ghost use Rattle.std.specs.Prelude.{◌≡◌, [], ◌∷◌, option_map};
 ghost use Rattle.tx_step.specs.Faces.{sent};
 ghost use Rattle.tx_step.specs.InWay.{IsOfMember, gives_two_answers, least_target, passing};
 ghost use Rattle.tx_content.specs.Content.{content_of, now_of, view_of};
 ghost use Rattle.tx_content.specs.Insides.{IsFootprint};
+ghost use Rattle.tx_kernel.specs.Plans.{sending_of};
 ghost use Rattle.tx_model.specs.Events.{Event, effect};
 ghost use Rattle.tx_model.specs.View.{starter_in_way};
 ghost use Rattle.tx_reserve.specs.Reservations.{lesser_of, number_of};
@@ -50,6 +51,9 @@ fn least_target(content: &Content, own: Option<Pid>, first: &Sends, held: &[Send
         ≡ least_target (gives_two_answers content.now (option_map number_of own)
         (sent first.now held.now)) (sent first.now held.now) }
 {
+    if held.is_empty() {
+        return target_of_first(content, own, first);
+    }
     let mut asked = Objects::new();
     let mut least = match first {
         Sends::Nothing => None,
@@ -72,6 +76,38 @@ fn least_target(content: &Content, own: Option<Pid>, first: &Sends, held: &[Send
             target(content, own, sending.target, first, held),
         ),
         _ => least,
+    }
+}
+
+/// The same where nothing is held.
+fn target_of_first(content: &Content, own: Option<Pid>, first: &Sends) -> Option<Pid>
+    ensures { option_map number_of result
+        ≡ least_target (gives_two_answers content.now (option_map number_of own)
+        (sent first.now [])) (sent first.now []) }
+{
+    match first {
+        Sends::Nothing => None,
+        Sends::AtOnce(sending) => target_of_one(content, own, sending),
+        Sends::AtCommit(sending) => target_of_one(content, own, sending),
+    }
+}
+
+/// The target of a signal that is sent alone, if it is such a starter.
+fn target_of_one(content: &Content, own: Option<Pid>, sending: &Sending) -> Option<Pid>
+    ensures { option_map number_of result
+        ≡ passing (gives_two_answers content.now (option_map number_of own)
+        (sending_of sending.now ∷ [])) sending.now.target.0 }
+{
+    let pid = sending.target;
+    if own == Some(pid) {
+        return None;
+    }
+    let boxed = content.txns.get(pid)?;
+    let faces = Faces::of(&content.parts, pid, &boxed.txn.kept);
+    if faces.answers(sending).is_some() {
+        Some(pid)
+    } else {
+        None
     }
 }
 

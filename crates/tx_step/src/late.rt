@@ -15,6 +15,7 @@ use tx_kernel::Act;
 
 /// Why the act of a process that runs was refused, given why its plan was: for the same reason, but
 /// if that was want of memory and the rule has a reason, for the rule's. It takes no memory.
+#[inline(never)] // few steps are refused, and inlined, each would make room for an actor
 pub(crate) fn late_refusal(content: &Content, pid: Pid, act: &Act, why: Refusal) -> Refusal
     requires content { IsContent content.now }
     requires running { IsRunning (slot_at content.now.parts.procs pid.0) }

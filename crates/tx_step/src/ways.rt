@@ -1,13 +1,15 @@
 //! What a step names, and who is in its way.
 ghost use Rattle.std.specs.Option.{option_copied};
-ghost use Rattle.std.specs.Prelude.{◌≡◌, false, map, length, [], ◌∷◌, option_map, IsTrue};
+ghost use Rattle.std.specs.Prelude.{◌≡◌, ◌≢◌, false, map, length, [], ◌∷◌, option_map, IsTrue};
 ghost use Rattle.tx_base.specs.Slots.{slot_at};
+ghost use Rattle.tx_base.specs.declared.names.Pid.{Pid as ThePid};
 ghost use Rattle.tx_base.specs.declared.steps.Step.TheVariants.{Call as Calls, Deliver};
 ghost use Rattle.tx_step.specs.Contents.{IsContent};
 ghost use Rattle.tx_step.specs.Faces.{sent};
 ghost use Rattle.tx_step.specs.InWay.{IsOfMember, starter_in};
 ghost use Rattle.tx_step.specs.Roles.{role_as};
-ghost use Rattle.tx_step.specs.Ways.{IsOwnActor, held_at_commit, posted_with};
+ghost use Rattle.tx_step.specs.declared.roles.StepRole.TheVariants as step;
+ghost use Rattle.tx_step.specs.Ways.{IsOwnActor, SendsNothing, held_at_commit, posted_with};
 ghost use Rattle.tx_kernel.specs.Actors.{CountsHeld, inside_of};
 ghost use Rattle.tx_kernel.specs.Plans.{sending_of, sent_at_once};
 ghost use Rattle.tx_laws.specs.Footprints.{is_abort};
@@ -28,7 +30,7 @@ ghost use Rattle.tx_txn.specs.Content.{IsKept};
 ghost use Rattle.tx_txn.specs.Marks.{table_at};
 
 use crate::in_way::find_starter;
-use crate::own::concerns_itself;
+use crate::own::{concerns_itself, sends_nothing};
 use crate::refusal_laws::{contents_are_whole, way_laws};
 use crate::roles::StepRole;
 use tx_base::{Call, Pid, Sending, Signo};
@@ -65,6 +67,7 @@ pub fn way_of_call(
         _ if concerns_itself(call) => {
             way_of_process(content, starter_of(content, pid), pid, footprint)
         }
+        _ if sends_nothing(call) => way_of_quiet_call(content, pid, call, role, footprint),
         _ => way_of_others_call(content, pid, call, role, footprint),
     }
 }
@@ -94,6 +97,36 @@ pub fn way_of_delivery(
     footprint_of_delivery(&actor, &content.marks, last, signo, footprint);
     let first = actor.sends_of_delivery(signo);
     find_in_way(content, pid, role, footprint, &first)
+}
+
+/// The same as `way_of_call` of a call that ends no transaction and sends nothing.
+fn way_of_quiet_call(
+    content: &Content,
+    pid: Pid,
+    call: &Call,
+    role: StepRole,
+    footprint: &mut Objects,
+) -> Option<Pid>
+    requires content { IsContent content.now }
+    requires running { IsRunning (slot_at content.now.parts.procs pid.0) }
+    requires numbers { has_bad_number (length content.now.parts.procs) (Calls pid call.now)
+        ≡ false }
+    requires role { role_as pid.0 role ≡ role_on (view_of content.now) (Calls pid call.now) }
+    requires no_abort { is_abort (role_on (view_of content.now) (Calls pid call.now)) ≡ false }
+    requires no_commit { (starter : ThePid) → role ≢ step.Commits starter }
+    requires quiet { SendsNothing call.now }
+    requires empty { (o : TheObject) → is_in footprint.old o ≡ false }
+    ensures footprint { IsFootprint content.now
+        (event_on (view_of content.now) (Calls pid call.now)) footprint.new }
+    ensures starter_in_way { option_map number_of result
+        ≡ starter_in_way (view_of content.now)
+        (event_on (view_of content.now) (Calls pid call.now)) }
+{
+    way_laws();
+    answers_of_faces();
+    let actor = actor_of(content, pid);
+    footprint_of_call(&actor, &content.marks, None, call, footprint);
+    content.owners.conflict(footprint, starter_of(content, pid))
 }
 
 /// The same as `way_of_call` of a call that aborts nothing, and may concern others than its process.

@@ -1,7 +1,7 @@
 use Rattle.std.proofs.Common.{sym, ap, subst, ◌∙◌}
 use Rattle.tx_base.specs.declared.steps.Step.TheVariants.{Call as Calls}
 use Rattle.tx_step.proofs.AbortWays.{note_footprint, note_member, note_sends}
-use Rattle.tx_step.proofs.OwnWays.{own_quiet, own_set}
+use Rattle.tx_step.proofs.OwnWays.{own_set, quiet_event}
 use Rattle.tx_step.proofs.WaysTold.{aborted, call_member, footprint_is, not_abort}
 use Rattle.tx_step.specs.InWay.{IsOfMember}
 use Rattle.tx_step.specs.Roles.{role_as}
@@ -42,6 +42,6 @@ returns-in_default c =
     record {
       footprint = named;
       starter_in_way = c.way_of_process-in_default.ensures.starter_in_way (event_on (view_of k) step) named
-          (own_quiet k c.args.pid c.args.call.now c.args.role itself c.requires.running c.in_default.not-Commits c.requires.role)
+          (quiet_event k c.args.pid c.args.call.now c.args.role itself.sends c.requires.running c.in_default.not-Commits c.requires.role)
           (subst (λ own. IsOfMember k own (event_on (view_of k) step)) (sym c.starter_of.ensures) (call_member c.way_laws.ensures k c.args.pid c.args.call.now no_abort));
     }
