@@ -19,5 +19,6 @@ fault_text faults.NoMemory = codes "F6"
 -- words want some
 abbrev pub ReportsFault : Fault → Answer → Type 0
 ReportsFault fault (Read text) = ⊥
-ReportsFault fault (Unread text) = (fault ≢ faults.NoMemory) × (string_bytes text ≡ fault_text fault)
+ReportsFault fault (Unread text) =
+    (fault ≢ faults.NoMemory) × (string_bytes text ≡ fault_text fault)
 ReportsFault fault NoMemory = Unit {0}

@@ -21,14 +21,16 @@ bytes_of NoMemory = []
 
 -- an answer is handed out: its size is given; its bytes are at the front of a buffer that has room
 -- for all of them, and the rest of the buffer is as it was; a buffer without the room is as it was
-pub record HandsOut (answer : Answer) (old : List ℕ) (status : ℤ) (new : List ℕ) (size : ℕ) : Type 0 where
+pub record HandsOut (answer : Answer) (old : List ℕ) (status : ℤ) (new : List ℕ) (size : ℕ)
+    : Type 0 where
   pub said : size ≡ length (bytes_of answer)
   pub whole : length (bytes_of answer) ≤ length old →
       (status ≡ status_of answer) × (new ≡ bytes_of answer ++ drop (length (bytes_of answer)) old)
   pub none : length old < length (bytes_of answer) → (status ≡ too_small) × (new ≡ old)
 
 -- an answer is handed out of which that is so
-pub record Gives (Is : Answer → Type 0) (old : List ℕ) (status : ℤ) (new : List ℕ) (size : ℕ) : Type 0 where
+pub record Gives (Is : Answer → Type 0) (old : List ℕ) (status : ℤ) (new : List ℕ) (size : ℕ)
+    : Type 0 where
   pub answer : Answer
   pub is : Is answer
   pub handed : HandsOut answer old status new size

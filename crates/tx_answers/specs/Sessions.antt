@@ -18,7 +18,10 @@ pub record IsServedText (form : Form) (text written : List ℕ) : Type 0 where
   pub events : List Event
   pub left : List ℕ
   pub last : Standing
-  pub served : IsServed (first_standing form) last (record { log = Some []; coming = Some text; shown = Some [] }) (record { log = Some events; coming = Some left; shown = Some written }) (Ok tt)
+  pub served :
+      IsServed (first_standing form) last
+      (record { log = Some []; coming = Some text; shown = Some [] })
+      (record { log = Some events; coming = Some left; shown = Some written }) (Ok tt)
 
 -- what the lines of a text are answered, whatever they say
 abbrev pub AnswersLines : Form → List ℕ → Answer → Type 0

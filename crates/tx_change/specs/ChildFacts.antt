@@ -9,7 +9,9 @@ use Rattle.tx_proc.specs.ChildFacts.{no_child}
 use Rattle.tx_proc.specs.Children.{child_count}
 
 -- a process that no process has as its parent has no children below any number
-pub no_children : (p n : ℕ) (held : ℕ → List Sending) (parts : Parts) → child_count p parts.procs ≡ 0 → children_below p n (state_of held parts) ≡ []
+pub no_children : (p n : ℕ) (held : ℕ → List Sending) (parts : Parts)
+    → child_count p parts.procs ≡ 0 → children_below p n (state_of held parts) ≡ []
 unfolding children_below
 no_children p zero held parts none = refl
-no_children p (suc q) held parts none = rw (no_child p parts.procs q none) (no_children p q held parts none)
+no_children p (suc q) held parts none =
+    rw (no_child p parts.procs q none) (no_children p q held parts none)

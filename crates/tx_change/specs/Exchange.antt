@@ -23,16 +23,26 @@ pipe_at pipes number = slice_index_or pipes number None
 abbrev pub parts_after : Parts → Change → Parts
 parts_after parts (Slot pid slot) = record parts { procs = with_slot parts.procs pid.0 slot }
 parts_after parts (Part pid part) =
-    record parts { procs = with_slot parts.procs pid.0 (option_map (λ proc. edited_once proc part) (slot_at parts.procs pid.0)) }
-parts_after parts (Description number opened) = record parts { descs = slice_set parts.descs number.0 opened }
-parts_after parts (Pipe number part) = record parts { pipes = slice_set parts.pipes number.0 (piped_in (pipe_at parts.pipes number.0) part) }
+    record parts {
+      procs =
+          with_slot parts.procs pid.0
+          (option_map (λ proc. edited_once proc part) (slot_at parts.procs pid.0));
+    }
+parts_after parts (Description number opened) =
+    record parts { descs = slice_set parts.descs number.0 opened }
+parts_after parts (Pipe number part) =
+    record parts {
+      pipes = slice_set parts.pipes number.0 (piped_in (pipe_at parts.pipes number.0) part);
+    }
 
 -- the change after the exchange: it has the part that was there
 abbrev pub change_after : Parts → Change → Change
 change_after parts (Slot pid slot) = Slot pid (slot_at parts.procs pid.0)
 change_after parts (Part pid part) = Part pid (part_in (slot_at parts.procs pid.0) part)
-change_after parts (Description number opened) = Description number (slice_index_or parts.descs number.0 None)
-change_after parts (Pipe number part) = Pipe number (pipe_part_in (pipe_at parts.pipes number.0) part)
+change_after parts (Description number opened) =
+    Description number (slice_index_or parts.descs number.0 None)
+change_after parts (Pipe number part) =
+    Pipe number (pipe_part_in (pipe_at parts.pipes number.0) part)
 
 -- how many numbers there are of each kind
 pub record Sizes : Type 0 where
@@ -41,7 +51,8 @@ pub record Sizes : Type 0 where
   pub pipes : ℕ
 
 abbrev pub sizes_of : Parts → Sizes
-sizes_of parts = record { procs = length parts.procs; descs = length parts.descs; pipes = length parts.pipes }
+sizes_of parts =
+    record { procs = length parts.procs; descs = length parts.descs; pipes = length parts.pipes }
 
 -- a process number is valid
 pub record IsPid (sizes : Sizes) (n : ℕ) : Type 0 where
@@ -74,7 +85,8 @@ applied parts (change ∷ changes) = applied (parts_after parts change) changes
 -- what the changes have then
 abbrev pub exchanged : Parts → List Change → List Change
 exchanged parts [] = []
-exchanged parts (change ∷ changes) = change_after parts change ∷ exchanged (parts_after parts change) changes
+exchanged parts (change ∷ changes) =
+    change_after parts change ∷ exchanged (parts_after parts change) changes
 
 -- the parts after each change was exchanged, the last one first
 abbrev pub undone : Parts → List Change → Parts
@@ -84,4 +96,5 @@ undone parts (change ∷ changes) = parts_after (undone parts changes) change
 -- what the changes have then
 abbrev pub reverted : Parts → List Change → List Change
 reverted parts [] = []
-reverted parts (change ∷ changes) = change_after (undone parts changes) change ∷ reverted parts changes
+reverted parts (change ∷ changes) =
+    change_after (undone parts changes) change ∷ reverted parts changes

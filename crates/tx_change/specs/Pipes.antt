@@ -13,7 +13,8 @@ piped held (Back count bytes) = back_exchanged count bytes held
 -- the bytes that were there
 abbrev pub part_of : List ℕ → PipePart → PipePart
 part_of held (Whole pipe) = Whole pipe
-part_of held (Front count bytes) = Front (count_given count bytes held) (front_given count bytes held)
+part_of held (Front count bytes) =
+    Front (count_given count bytes held) (front_given count bytes held)
 part_of held (Back count bytes) = Back (count_given count bytes held) (back_given count bytes held)
 
 abbrev pub part_in : Option (List ℕ) → PipePart → PipePart

@@ -19,20 +19,31 @@ moved_onto stack parts changes = stack ++ reverse (reverted parts changes)
 
 -- what was moved back onto a stack is on top of it, in order, and what was there is below
 abbrev pub MovedIsOnTop : Type 0
-MovedIsOnTop = (stack : List Change) (parts : Parts) (changes : List Change) → top_of (length changes) (moved_onto stack parts changes) ≡ reverted parts changes
+MovedIsOnTop =
+    (stack : List Change) (parts : Parts) (changes : List Change)
+    → top_of (length changes) (moved_onto stack parts changes) ≡ reverted parts changes
 
 abbrev pub RestIsBelow : Type 0
-RestIsBelow = (stack : List Change) (parts : Parts) (changes : List Change) → below_top (length changes) (moved_onto stack parts changes) ≡ stack
+RestIsBelow =
+    (stack : List Change) (parts : Parts) (changes : List Change)
+    → below_top (length changes) (moved_onto stack parts changes) ≡ stack
 
 -- there are as many as were moved, at least
 abbrev pub MovedAreThere : Type 0
-MovedAreThere = (stack : List Change) (parts : Parts) (changes : List Change) → length changes ≤ length (moved_onto stack parts changes)
+MovedAreThere =
+    (stack : List Change) (parts : Parts) (changes : List Change)
+    → length changes ≤ length (moved_onto stack parts changes)
 
 -- to move changes back and forward again is nothing: to the parts, and to the log
 abbrev pub MovedBackAndForward : Type 0
-MovedBackAndForward = (stack : List Change) (parts : Parts) (changes : List Change) → AreNamed parts changes →
-    applied (undone parts changes) (top_of (length changes) (moved_onto stack parts changes)) ≡ parts
+MovedBackAndForward =
+    (stack : List Change) (parts : Parts) (changes : List Change) → AreNamed parts changes →
+    applied (undone parts changes) (top_of (length changes) (moved_onto stack parts changes))
+    ≡ parts
 
 abbrev pub LoggedBackAndForward : Type 0
-LoggedBackAndForward = (stack : List Change) (parts : Parts) (changes : List Change) → AreNamed parts changes → BringPlaces changes → HaveAllPlaces parts →
-    exchanged (undone parts changes) (top_of (length changes) (moved_onto stack parts changes)) ≡ changes
+LoggedBackAndForward =
+    (stack : List Change) (parts : Parts) (changes : List Change) → AreNamed parts changes
+    → BringPlaces changes → HaveAllPlaces parts →
+    exchanged (undone parts changes) (top_of (length changes) (moved_onto stack parts changes))
+    ≡ changes

@@ -23,7 +23,8 @@ state_of held parts = record {
 -- a state with the part replaced that the change has
 abbrev pub changed : Change → State → State
 changed (Slot pid slot) S = write_one (SetProc pid.0 (process_in slot)) S
-changed (Part pid part) S = write_one (SetProc pid.0 (option_map (λ me. revised part me) (S.procs pid.0))) S
+changed (Part pid part) S =
+    write_one (SetProc pid.0 (option_map (λ me. revised part me) (S.procs pid.0))) S
 changed (Description number opened) S = write_one (SetDesc number.0 (described opened)) S
 changed (Pipe number part) S = write_one (SetPipe number.0 (piped_in (S.pipes number.0) part)) S
 

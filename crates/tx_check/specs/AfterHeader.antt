@@ -23,21 +23,30 @@ pub record IsAllowedAt (text : List ℕ) (place : Place) (line : TextLine) : Typ
   pub right : IsRight place.part place.version line.bytes.now
   pub once : place.part ≡ parts.ProgramLine → IsTwice text line.number line.bytes.now → ⊥
 
--- nothing is reported of the line at that place: it may be there, and where only labels are checked its label is somewhere
+-- nothing is reported of the line at that place: it may be there, and where only labels are checked
+-- its label is somewhere
 pub record IsQuietAt (text : List ℕ) (place : Place) (line : TextLine) : Type 0 where
   pub may : IsAllowedAt text place line
   pub linked : place.part ≡ parts.Link → IsLinkedLine place.version text line.bytes.now
 
--- why it may not, where it is neither too long nor one too many: it has no end, or the grammar does not have it, or it is a second label
+-- why it may not, where it is neither too long nor one too many: it has no end, or the grammar does
+-- not have it, or it is a second label
 abbrev pub IsNoLineAt : List ℕ → Place → TextLine → Type 0
 IsNoLineAt text place line =
-    (line.is_ended ≡ false) ⊎ (IsNoneThere place.part place.version line.bytes.now ⊎ ((place.part ≡ parts.ProgramLine) × IsTwice text line.number line.bytes.now))
+    (line.is_ended ≡ false)
+    ⊎ (IsNoneThere place.part place.version line.bytes.now
+    ⊎ ((place.part ≡ parts.ProgramLine) × IsTwice text line.number line.bytes.now))
 
 -- the fault of the line at that place
 abbrev pub IsFaultAt : List ℕ → Place → TextLine → Fault → Type 0
-IsFaultAt text place line (TooLong number) = (number ≡ line.number) × ((512 < length line.bytes.now) ⊎ IsTooMany place.part place.count place.labels line.bytes.now)
+IsFaultAt text place line (TooLong number) =
+    (number ≡ line.number)
+    × ((512 < length line.bytes.now) ⊎ IsTooMany place.part place.count place.labels line.bytes.now)
 IsFaultAt text place line (NotALine number) =
-    (number ≡ line.number) × (length line.bytes.now ≤ 512) × (IsTooMany place.part place.count place.labels line.bytes.now → ⊥) × IsNoLineAt text place line
+    (number ≡ line.number)
+    × (length line.bytes.now ≤ 512)
+    × (IsTooMany place.part place.count place.labels line.bytes.now → ⊥)
+    × IsNoLineAt text place line
 IsFaultAt text place line _ = ⊥
 
 -- what follows a header is the lines of a program

@@ -23,7 +23,11 @@ pub record Diagnostic : Type 0 where
 
 -- the spelling of a diagnostic, without its line's end
 abbrev pub diagnostic_text : Diagnostic → List ℕ
-diagnostic_text diagnostic = codes "line " ++ (decimal diagnostic.line ++ (codes ", column " ++ (decimal diagnostic.column ++ (codes ": " ++ diagnostic.sentence))))
+diagnostic_text diagnostic =
+    codes "line "
+    ++ (decimal diagnostic.line
+    ++ (codes ", column "
+    ++ (decimal diagnostic.column ++ (codes ": " ++ diagnostic.sentence))))
 
 -- whether a byte is no end of a line
 abbrev pub is_no_end : ℕ → Bool
@@ -43,8 +47,9 @@ pub record IsPlaced (line : List ℕ) (trouble : Trouble) : Type 0 where
   pub in_line : IsPlacedInLine line trouble.column trouble.what
   pub word : IfSome (word_of trouble.what) (λ word. IsWordAt line trouble.column word)
 
--- the diagnostic of a line of these bytes is in one line, and names a column of that one: that of the word of which it speaks; a line that is too long,
--- whether or not a byte 13 at its end counts, is reported as that
+-- the diagnostic of a line of these bytes is in one line, and names a column of that one: that of
+-- the word of which it speaks; a line that is too long, whether or not a byte 13 at its end counts,
+-- is reported as that
 pub record IsDiagnosticOf (bytes : List ℕ) (diagnostic : Diagnostic) : Type 0 where
   pub column : IsColumn bytes diagnostic.column
   pub in_line : IsInLine diagnostic.sentence
@@ -83,9 +88,10 @@ abbrev pub IsAmong : ℕ → List Diagnostic → Type 0
 IsAmong line [] = ⊥
 IsAmong line (diagnostic ∷ others) = (diagnostic.line ≡ line) ⊎ IsAmong line others
 
--- the report on some lines of a text, that line first; each later one is at fault too; and none that is wanted is left out: the own line of each
--- such meant line is among them
-pub record ReportsFrom (IsWanted : ℕ → Type 0) (text : List ℕ) (line : ℕ) (report : List ℕ) : Type 0 where
+-- the report on some lines of a text, that line first; each later one is at fault too; and none
+-- that is wanted is left out: the own line of each such meant line is among them
+pub record ReportsFrom (IsWanted : ℕ → Type 0) (text : List ℕ) (line : ℕ) (report : List ℕ)
+    : Type 0 where
   pub first : Diagnostic
   pub others : List Diagnostic
   pub at : first.line ≡ line
@@ -96,7 +102,8 @@ pub record ReportsFrom (IsWanted : ℕ → Type 0) (text : List ℕ) (line : ℕ
   pub spelled : report ≡ lines_of diagnostic_text (first ∷ others)
 
 -- the report on some lines up to that one, which is reported
-pub record ReportsUpTo (IsWanted : ℕ → Type 0) (text : List ℕ) (line last : ℕ) (report : List ℕ) : Type 0 where
+pub record ReportsUpTo (IsWanted : ℕ → Type 0) (text : List ℕ) (line last : ℕ) (report : List ℕ)
+    : Type 0 where
   pub from : ReportsFrom IsWanted text line report
   pub up_to : last_line line from.others ≡ last
 
@@ -105,22 +112,29 @@ abbrev pub IsMeantFault : List ℕ → Fault → Type 0
 IsMeantFault text fault = IsOwnFault (IsAtFault (kind_of (meant_of text))) text fault
 
 -- a text is at fault, and the line of the fault is reported first
-pub record ReportsFault (IsFault : Fault → Type 0) (IsWanted : ℕ → Type 0) (text report : List ℕ) : Type 0 where
+pub record ReportsFault (IsFault : Fault → Type 0) (IsWanted : ℕ → Type 0) (text report : List ℕ)
+    : Type 0 where
   pub fault : Fault
   pub is_fault : IsFault fault
   pub reports : ReportsFrom IsWanted text (line_of fault) report
 
--- the report is empty exactly where a text is right; any other is at fault, and the line of each fault that it has is first; no wanted line is left out
-pub record IsReportBy (IsRight : Type 0) (IsFault : Fault → Type 0) (IsWanted : ℕ → Type 0) (text report : List ℕ) : Type 0 where
+-- the report is empty exactly where a text is right; any other is at fault, and the line of each
+-- fault that it has is first; no wanted line is left out
+pub record IsReportBy (IsRight : Type 0) (IsFault : Fault → Type 0) (IsWanted : ℕ → Type 0)
+    (text report : List ℕ) : Type 0 where
   pub silent : (report ≡ []) ↔ IsRight
   pub at_fault : report ≢ [] → ReportsFault IsFault IsWanted text report
   pub first : (fault : Fault) → IsFault fault → ReportsFrom IsWanted text (line_of fault) report
 
--- that is the report on a text for the command of its kind, and no line that is at fault too is left out
+-- that is the report on a text for the command of its kind, and no line that is at fault too is
+-- left out
 abbrev pub IsReportOf : List ℕ → List ℕ → Type 0
-IsReportOf text report = IsReportBy (IsRead (kind_of (meant_of text)) (meant_of text)) (IsMeantFault text) (IsWrongToo (meant_of text)) text report
+IsReportOf text report =
+    IsReportBy (IsRead (kind_of (meant_of text)) (meant_of text)) (IsMeantFault text)
+    (IsWrongToo (meant_of text)) text report
 
--- one more diagnostic is appended, of the line of that number and those bytes, with a sentence of that kind
+-- one more diagnostic is appended, of the line of that number and those bytes, with a sentence of
+-- that kind
 pub record ReportsOfKind (kind : FaultKind) (line : ℕ) (bytes old new : List ℕ) : Type 0 where
   pub reports : Reports line bytes old new
   pub of_kind : IsOfKind kind reports.diagnostic.sentence

@@ -27,7 +27,9 @@ rest_of line = rest_by (first_word line)
 
 -- whether a line begins with `txos`, a word, and `program`
 abbrev pub is_program_head : List ℕ → Bool
-is_program_head line = bytes_eq (front_word line) (codes "txos") && bytes_eq (front_word (rest_of (rest_of line))) (codes "program")
+is_program_head line =
+    bytes_eq (front_word line) (codes "txos")
+    && bytes_eq (front_word (rest_of (rest_of line))) (codes "program")
 
 -- whether the first line of a text is the one before commands
 abbrev pub begins_with_debug : List ℕ → Bool
@@ -42,9 +44,11 @@ has_debug (byte ∷ bytes) = (nat_eq byte 10 && begins_with_debug bytes) || has_
 abbrev pub debug_ahead : List ℕ → Bool
 debug_ahead left = begins_with_debug left || has_debug left
 
--- the kind of a text: a program by its first line; else a schedule with commands where a line `debug` follows; else a schedule
+-- the kind of a text: a program by its first line; else a schedule with commands where a line
+-- `debug` follows; else a schedule
 abbrev pub kind_of : List ℕ → Kind
-kind_of text = if is_program_head (first_line text) then Program else if has_debug text then Walk else Schedule
+kind_of text =
+    if is_program_head (first_line text) then Program else if has_debug text then Walk else Schedule
 
 -- the kind of header that such a text has
 abbrev pub head_of : Kind → TextKind

@@ -21,7 +21,9 @@ with_label number line labels = if begins_label line then labels ++ (number, lin
 abbrev pub labels_in : ℕ → ℕ → List ℕ → List (ℕ × List ℕ)
 labels_in zero number text = []
 labels_in (suc count) number text =
-    if begins_label (first_line text) then (number, first_line text) ∷ labels_in count (number + 1) (behind text) else labels_in count (number + 1) (behind text)
+    if begins_label (first_line text)
+    then (number, first_line text) ∷ labels_in count (number + 1) (behind text)
+    else labels_in count (number + 1) (behind text)
 
 -- the known labels are those among the lines that were searched
 pub record AreKnown (labels : Labels) : Type 0 where
@@ -33,4 +35,5 @@ pub record AreKnown (labels : Labels) : Type 0 where
 pub record IsFirstLabel (text name : List ℕ) (place : LabelPlace) : Type 0 where
   pub some : 1 ≤ place.number
   pub found : line_at place.number text ≡ label_front ++ name
-  pub first : (earlier : ℕ) → 1 ≤ earlier → earlier < place.number → line_at earlier text ≢ label_front ++ name
+  pub first : (earlier : ℕ) → 1 ≤ earlier → earlier < place.number
+      → line_at earlier text ≢ label_front ++ name

@@ -28,10 +28,12 @@ pub record IsNear (word name : List ℕ) (edits : ℕ) : Type 0 where
 -- each of these names that is near takes so many edits at least
 abbrev pub AreFar : List ℕ → ℕ → List (List ℕ) → Type 0
 AreFar word least [] = Unit {0}
-AreFar word least (name ∷ names) = ((edits : ℕ) → IsNear word name edits → least ≤ edits) × AreFar word least names
+AreFar word least (name ∷ names) =
+    ((edits : ℕ) → IsNear word name edits → least ≤ edits) × AreFar word least names
 
 -- it is the first of the names that take the fewest edits
-pub record IsNearest (word : List ℕ) (names : List (List ℕ)) (name : List ℕ) (edits : ℕ) : Type 0 where
+pub record IsNearest (word : List ℕ) (names : List (List ℕ)) (name : List ℕ) (edits : ℕ)
+    : Type 0 where
   pub before : List (List ℕ)
   pub after : List (List ℕ)
   pub parts : names ≡ before ++ (name ∷ after)
@@ -47,7 +49,8 @@ FindsNear word names most (Some found) = IsNearest word names found.0 found.1 ×
 -- the same, where nothing is said of how many edits it takes
 abbrev pub FindsName : List ℕ → List (List ℕ) → ℕ → Option (List ℕ) → Type 0
 FindsName word names most None = AreFar word most names
-FindsName word names most (Some name) = (edits : ℕ) × IsNearest word names name edits × (edits < most)
+FindsName word names most (Some name) =
+    (edits : ℕ) × IsNearest word names name edits × (edits < most)
 
 -- how many edits are too many, where that was found
 abbrev pub bound : ℕ → Option (List ℕ × ℕ) → ℕ
@@ -97,12 +100,21 @@ IsKnown (Some (nears.Form form)) = Unit {0}
 IsKnown (Some (nears.Step form)) = Unit {0}
 IsKnown (Some (nears.Label line)) = ⊥
 
--- the name that is found is one that is known from elsewhere, or the nearest of those that there are: a program has no `deliver`, and a line of a
--- session is a command, or begins with a call where that is nearer
+-- the name that is found is one that is known from elsewhere, or the nearest of those that there
+-- are: a program has no `deliver`, and a line of a session is a command, or begins with a call
+-- where that is nearer
 abbrev pub IsFoundIn : Names → List ℕ → Option NearName → Type 0
-IsFoundIn names.Calls word found = IsKnown found ⊎ FindsName word call_names 5 (option_map name_of found)
-IsFoundIn names.Instructions word found = IsKnown found ⊎ FindsName word (take (length call_names - 1) call_names) 5 (option_map name_of found)
-IsFoundIn names.Commands word found = IsKnown found ⊎ FindsName word (map (λ form. form.0.now) COMMANDS) 5 (option_map name_of found)
-IsFoundIn names.Session word found = IsKnown found ⊎ FindsName word (map (λ form. form.0.now) SESSION ++ call_names) 5 (option_map name_of found)
-IsFoundIn names.Pieces word found = FindsName word (map (λ form. form.0.now) PIECES) 5 (option_map name_of found)
-IsFoundIn (names.Labels text) word found = FindsLabel (bare_name word) (left_of text) (option_map name_of found)
+IsFoundIn names.Calls word found =
+    IsKnown found ⊎ FindsName word call_names 5 (option_map name_of found)
+IsFoundIn names.Instructions word found =
+    IsKnown found
+    ⊎ FindsName word (take (length call_names - 1) call_names) 5 (option_map name_of found)
+IsFoundIn names.Commands word found =
+    IsKnown found ⊎ FindsName word (map (λ form. form.0.now) COMMANDS) 5 (option_map name_of found)
+IsFoundIn names.Session word found =
+    IsKnown found
+    ⊎ FindsName word (map (λ form. form.0.now) SESSION ++ call_names) 5 (option_map name_of found)
+IsFoundIn names.Pieces word found =
+    FindsName word (map (λ form. form.0.now) PIECES) 5 (option_map name_of found)
+IsFoundIn (names.Labels text) word found =
+    FindsLabel (bare_name word) (left_of text) (option_map name_of found)

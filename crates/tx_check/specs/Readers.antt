@@ -11,7 +11,8 @@ use Rattle.tx_check.specs.declared.readers.Reader.TheVariants.{Any, Replay, Debu
 use Rattle.tx_lines.specs.declared.faults.Fault.{Fault}
 use Rattle.tx_translate.specs.Meant.{meant_of, IsOwnFault}
 
--- the kind of text that a command reads, by the kind that a text is meant to be: JSON is made of no program
+-- the kind of text that a command reads, by the kind that a text is meant to be: JSON is made of no
+-- program
 abbrev pub kind_for : Reader → Kind → Kind
 kind_for Any kind = kind
 kind_for Replay kind = Schedule
@@ -25,17 +26,21 @@ kind_for Json kind = Schedule
 abbrev pub kind_read : Reader → List ℕ → Kind
 kind_read reader text = kind_for reader (kind_of text)
 
--- the text is at fault for a kind at a line where it is at fault for its own kind too, and so is the line of that number, after that one
+-- the text is at fault for a kind at a line where it is at fault for its own kind too, and so is
+-- the line of that number, after that one
 pub record IsWrongFor (kind : Kind) (text : List ℕ) (number : ℕ) : Type 0 where
   pub fault : Fault
   pub is_fault : IsAtFault kind text fault
   pub own : IsWrongToo text number
   pub same : line_of own.fault ≡ line_of fault
 
--- the report on a text that must be of a kind: nothing exactly where it is read as that; else first the line of the fault at which it is found, and each line at fault after
--- that one where the text's own kind has its fault there too: where it has not, no other line is promised
+-- the report on a text that must be of a kind: nothing exactly where it is read as that; else first
+-- the line of the fault at which it is found, and each line at fault after that one where the
+-- text's own kind has its fault there too: where it has not, no other line is promised
 abbrev pub IsReportAs : Kind → List ℕ → List ℕ → Type 0
-IsReportAs kind text report = IsReportBy (IsRead kind (meant_of text)) (IsOwnFault (IsAtFault kind) text) (IsWrongFor kind (meant_of text)) text report
+IsReportAs kind text report =
+    IsReportBy (IsRead kind (meant_of text)) (IsOwnFault (IsAtFault kind) text)
+    (IsWrongFor kind (meant_of text)) text report
 
 -- the same of a text for a command, which reads that kind
 abbrev pub IsReportFor : Reader → List ℕ → List ℕ → Type 0

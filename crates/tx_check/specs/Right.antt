@@ -43,9 +43,11 @@ IsNoneThere parts.Step version line = IsNoLineBefore version line
 IsNoneThere parts.Command version line = IsNoCommand version line
 IsNoneThere _ version line = IsNoLineOf version line
 
--- so many lines of its part are before it that the line is one too many; of a program there are so many instructions, and so many labels
+-- so many lines of its part are before it that the line is one too many; of a program there are so
+-- many instructions, and so many labels
 abbrev pub IsTooMany : Part → ℕ → ℕ → List ℕ → Type 0
 IsTooMany parts.Step count labels line = (4096 ≤ count) × (line ≢ debug_line)
 IsTooMany parts.Command count labels line = 4096 ≤ count
-IsTooMany parts.ProgramLine count labels line = ((256 ≤ labels) × BeginsLabel line) ⊎ ((1024 ≤ count) × (BeginsLabel line → ⊥))
+IsTooMany parts.ProgramLine count labels line =
+    ((256 ≤ labels) × BeginsLabel line) ⊎ ((1024 ≤ count) × (BeginsLabel line → ⊥))
 IsTooMany _ count labels line = ⊥

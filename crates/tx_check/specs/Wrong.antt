@@ -19,11 +19,13 @@ abbrev pub IsOneTooMany : Context → List ℕ → Type 0
 IsOneTooMany (AtHeader kind) line = ⊥
 IsOneTooMany (AmongSteps steps) line = (4096 ≤ steps) × (line ≢ debug_line)
 IsOneTooMany (AmongCommands commands) line = 4096 ≤ commands
-IsOneTooMany (AmongLines instructions labels) line = ((256 ≤ labels) × BeginsLabel line) ⊎ ((1024 ≤ instructions) × (BeginsLabel line → ⊥))
+IsOneTooMany (AmongLines instructions labels) line =
+    ((256 ≤ labels) × BeginsLabel line) ⊎ ((1024 ≤ instructions) × (BeginsLabel line → ⊥))
 
 -- the line after so many is
 abbrev pub IsTooManyAfter : List ℕ → ℕ → Type 0
-IsTooManyAfter text count = IsOneTooMany (context_after (kind_of text) text count) (first_line (after_lines count text))
+IsTooManyAfter text count =
+    IsOneTooMany (context_after (kind_of text) text count) (first_line (after_lines count text))
 
 -- the line is none that the grammar has there; nothing is said of headers
 abbrev pub IsNoneIn : Version → Context → List ℕ → Type 0
@@ -59,7 +61,8 @@ pub record NamesNowhere (text line : List ℕ) : Type 0 where
   pub nowhere : (number : ℕ) → line_at number text ≢ label_front ++ name
 
 -- the line of that number is at fault in that context, whatever label it names
-pub data IsWrongIn (version : Version) (text : List ℕ) (number : ℕ) (context : Context) (line : List ℕ) (is_ended : Bool) : Type 0 where
+pub data IsWrongIn (version : Version) (text : List ℕ) (number : ℕ) (context : Context)
+    (line : List ℕ) (is_ended : Bool) : Type 0 where
   TooLong : 512 < length line → IsWrongIn version text number context line is_ended
   NoEnd : is_ended ≡ false → IsWrongIn version text number context line is_ended
   TooMany : IsOneTooMany context line → IsWrongIn version text number context line is_ended
@@ -68,7 +71,8 @@ pub data IsWrongIn (version : Version) (text : List ℕ) (number : ℕ) (context
 
 -- so it is, or it names a label that is nowhere
 abbrev pub IsWrong : Version → List ℕ → ℕ → Context → List ℕ → Bool → Type 0
-IsWrong version text number context line is_ended = IsWrongIn version text number context line is_ended ⊎ NamesNowhere text line
+IsWrong version text number context line is_ended =
+    IsWrongIn version text number context line is_ended ⊎ NamesNowhere text line
 
 -- whether the line of that number has an end
 abbrev pub has_end : ℕ → List ℕ → Bool
@@ -80,14 +84,19 @@ pub record IsWrongLine (text : List ℕ) (number : ℕ) : Type 0 where
   pub there : after_lines (number - 1) text ≢ []
   pub version : Version
   pub of_text : IsVersionOf (head_of (kind_of text)) text version
-  pub wrong : IsWrong version text number (context_after (kind_of text) text (number - 1)) (line_at number text) (has_end number text)
+  pub wrong :
+      IsWrong version text number (context_after (kind_of text) text (number - 1))
+      (line_at number text) (has_end number text)
 
--- the line of that number is there and is at fault in its place, whatever label it names; and no line before it is one too many
+-- the line of that number is there and is at fault in its place, whatever label it names; and no
+-- line before it is one too many
 pub record IsWrongThere (text : List ℕ) (number : ℕ) : Type 0 where
   pub there : after_lines (number - 1) text ≢ []
   pub version : Version
   pub of_text : IsVersionOf (head_of (kind_of text)) text version
-  pub wrong : IsWrongIn version text number (context_after (kind_of text) text (number - 1)) (line_at number text) (has_end number text)
+  pub wrong :
+      IsWrongIn version text number (context_after (kind_of text) text (number - 1))
+      (line_at number text) (has_end number text)
   pub none_too_many : (count : ℕ) → count < number - 1 → IsTooManyAfter text count → ⊥
 
 -- the line names a label, and no line of the text is that label
@@ -97,13 +106,16 @@ IsNowhere text (Some name) = (number : ℕ) → line_at number text ≢ label_fr
 
 abbrev pub IsNamedNowhere : List ℕ → Line → Type 0
 IsNamedNowhere text (line.Label name) = ⊥
-IsNamedNowhere text (line.Instruction instruction) = IsNowhere text (label_in instruction.spellings.items)
+IsNamedNowhere text (line.Instruction instruction) =
+    IsNowhere text (label_in instruction.spellings.items)
 
 -- the line names no label that is nowhere, where it spells one of that version
 abbrev pub IsLinkedLine : Version → List ℕ → List ℕ → Type 0
-IsLinkedLine version text line = (one : Line) → IsLineOf version one → line ≡ line_text one → IsNamedNowhere text one → ⊥
+IsLinkedLine version text line =
+    (one : Line) → IsLineOf version one → line ≡ line_text one → IsNamedNowhere text one → ⊥
 
--- the line of that number is there, and is one of the text's version that names a label that is nowhere
+-- the line of that number is there, and is one of the text's version that names a label that is
+-- nowhere
 pub record IsUnlinked (text : List ℕ) (number : ℕ) : Type 0 where
   pub there : after_lines (number - 1) text ≢ []
   pub version : Version
@@ -113,13 +125,16 @@ pub record IsUnlinked (text : List ℕ) (number : ℕ) : Type 0 where
   pub spelled : line_at number text ≡ line_text one
   pub nowhere : IsNamedNowhere text one
 
--- the line of that number is neither too long nor one too many, and is at fault in its place, whatever label it names
+-- the line of that number is neither too long nor one too many, and is at fault in its place,
+-- whatever label it names
 pub record IsNoLineIn (text : List ℕ) (number : ℕ) : Type 0 where
   pub short : length (line_at number text) ≤ 512
   pub room : IsTooManyAfter text (number - 1) → ⊥
   pub version : Version
   pub of_text : IsVersionOf (head_of (kind_of text)) text version
-  pub wrong : IsWrongIn version text number (context_after (kind_of text) text (number - 1)) (line_at number text) (has_end number text)
+  pub wrong :
+      IsWrongIn version text number (context_after (kind_of text) text (number - 1))
+      (line_at number text) (has_end number text)
 
 -- it is right but for its label, which is nowhere
 pub record IsNoLabelIn (text : List ℕ) (number : ℕ) : Type 0 where
@@ -129,12 +144,14 @@ pub record IsNoLabelIn (text : List ℕ) (number : ℕ) : Type 0 where
 
 -- the line of that fault is so at fault
 abbrev pub IsFaultIn : List ℕ → Fault → Type 0
-IsFaultIn text (faults.TooLong line) = (512 < length (line_at line text)) ⊎ IsTooManyAfter text (line - 1)
+IsFaultIn text (faults.TooLong line) =
+    (512 < length (line_at line text)) ⊎ IsTooManyAfter text (line - 1)
 IsFaultIn text (faults.NotALine line) = IsNoLineIn text line
 IsFaultIn text (faults.NoLabel line) = IsNoLabelIn text line
 IsFaultIn text _ = ⊥
 
--- after the line of that fault of the text the line of that number is at fault too: where the fault is a label that is nowhere, by its label; else in its place
+-- after the line of that fault of the text the line of that number is at fault too: where the fault
+-- is a label that is nowhere, by its label; else in its place
 abbrev pub IsWrongAfterFault : Fault → List ℕ → ℕ → Type 0
 IsWrongAfterFault (faults.NotALine line) text number = (line < number) × IsWrongThere text number
 IsWrongAfterFault (faults.TooLong line) text number = (line < number) × IsWrongThere text number

@@ -34,23 +34,35 @@ led_parts parts txn = with_pending_at txn.starter.0 txn.kept.pending (undone par
 -- the transaction then: what it took back is in its log, and what was pending there is kept
 abbrev pub led_txn : Parts → Txn → Txn
 led_txn parts txn = record txn {
-  kept = record txn.kept { pending = pending_in (slot_at (undone parts txn.log).procs txn.starter.0) txn.kept.pending };
+  kept = record txn.kept {
+    pending =
+        pending_in (slot_at (undone parts txn.log).procs txn.starter.0) txn.kept.pending;
+  };
   log = reverted parts txn.log;
 }
 
 -- the parts with the starter at this point, with what was kept as pending there
 abbrev pub forth_parts : Parts → Txn → TheAnswer → Parts
-forth_parts parts txn stood = with_pending_at txn.starter.0 txn.kept.pending (parts_after parts (standing_at txn.starter stood))
+forth_parts parts txn stood =
+    with_pending_at txn.starter.0 txn.kept.pending
+    (parts_after parts (standing_at txn.starter stood))
 
 -- the transaction whose log was made on them: what was pending there is kept
 abbrev pub forth_txn : Parts → Txn → TheAnswer → Txn
 forth_txn parts txn stood = record txn {
-  kept = record txn.kept { pending = pending_in (slot_at (parts_after parts (standing_at txn.starter stood)).procs txn.starter.0) txn.kept.pending };
+  kept = record txn.kept {
+    pending =
+        pending_in
+        (slot_at (parts_after parts (standing_at txn.starter stood)).procs txn.starter.0)
+        txn.kept.pending;
+  };
   log = exchanged (forth_parts parts txn stood) txn.log;
 }
 
 -- the transaction was led back, and its starter has this answer from its point
-pub record IsLedBack (before after : Parts) (ret : ℤ) (old new : Txn) (stood : TheAnswer) : Type 0 where
-  pub parts : after ≡ parts_after (led_parts before old) (standing_at old.starter (answered_from stood ret))
+pub record IsLedBack (before after : Parts) (ret : ℤ) (old new : Txn) (stood : TheAnswer)
+    : Type 0 where
+  pub parts :
+      after ≡ parts_after (led_parts before old) (standing_at old.starter (answered_from stood ret))
   pub stands : stood ≡ standing (slot_at (led_parts before old).procs old.starter.0)
   pub txn : new ≡ led_txn before old

@@ -16,7 +16,8 @@ use Rattle.tx_txn.specs.Outboxes.{missed_in}
 use Rattle.tx_txn.specs.declared.txn.Txn.{Txn}
 
 -- the event was made by a member of the transaction, whose log has this many more changes
-pub record MakesLast (before after : Parts) (marks : List (Option Mark)) (pid : Pid) (act : Act) (old new : Txn) (last : Last) : Type 0 where
+pub record MakesLast (before after : Parts) (marks : List (Option Mark)) (pid : Pid) (act : Act)
+    (old new : Txn) (last : Last) : Type 0 where
   pub makes : MakesIn before after marks pid act old new last.planned
   pub count : last.count ≡ length new.log - length old.log
 
@@ -29,5 +30,6 @@ abbrev pub missed_of : Inverse → List Missed
 missed_of (Outside log post) = []
 missed_of (Inside step held) = []
 missed_of (Begun starter) = []
-missed_of (Committed boxed count held) = missed_in boxed.txn.value.outbox.sendings boxed.txn.value.outbox.posts
+missed_of (Committed boxed count held) =
+    missed_in boxed.txn.value.outbox.sendings boxed.txn.value.outbox.posts
 missed_of (Aborted boxed stood) = []

@@ -36,7 +36,12 @@ now_of k = state_of (held_of k) k.parts
 
 -- a live transaction, as the definitions have it
 abbrev pub txn_of : BoxedTxn → TheTxn
-txn_of boxed = record { log = newest_first boxed.txn.value.log; pending = boxed.txn.value.kept.pending; ids = ids_of boxed.txn.value.kept.ids }
+txn_of boxed =
+    record {
+      log = newest_first boxed.txn.value.log;
+      pending = boxed.txn.value.kept.pending;
+      ids = ids_of boxed.txn.value.kept.ids;
+    }
 
 -- what a live transaction holds is its own
 abbrev pub own_held : ℕ → Option BoxedTxn → Option ℕ
@@ -50,7 +55,13 @@ owner_at k (Pipe n) = owner_of k.owners (Pipe n)
 owner_at k (Held n) = own_held n (slot_at k.txns n)
 
 abbrev pub content_of : Content → LogKernel
-content_of k = record { now = now_of k; txns = λ n. option_map txn_of (slot_at k.txns n); owner = owner_at k; table = table_at k.marks }
+content_of k =
+    record {
+      now = now_of k;
+      txns = λ n. option_map txn_of (slot_at k.txns n);
+      owner = owner_at k;
+      table = table_at k.marks;
+    }
 
 -- the view that the machine has
 unfoldable pub view_of : Content → View
@@ -71,7 +82,8 @@ pub record IsTxn (k : Content) (n : ℕ) (txn : Txn) : Type 0 where
   -- nothing that it holds is posted
   pub posts : txn.outbox.posts ≡ map (λ sending. unmade) txn.outbox.sendings
   pub members : txn.members ≡ None
-  pub defers : (p : ℕ) (m : Mark) → slot_at k.marks p ≡ Some m → m.starter.0 ≡ n → m.defers ≡ txn.defers
+  pub defers : (p : ℕ) (m : Mark) → slot_at k.marks p ≡ Some m → m.starter.0 ≡ n
+      → m.defers ≡ txn.defers
 
 -- the parts, the tables and the transactions fit together
 pub record IsShaped (k : Content) : Type 0 where

@@ -14,12 +14,20 @@ use Rattle.tx_txn.specs.Marks.{IsCovered}
 use Rattle.tx_txn.specs.declared.txn.Txn.{Txn}
 
 -- the transaction's objects cover its members
-pub is_covered : (k : Content) (s : ℕ) (txn : Txn) (t : ℕ) → t ≡ s → IsTxn k s txn → IsCovered t k.marks txn.objects
+pub is_covered : (k : Content) (s : ℕ) (txn : Txn) (t : ℕ) → t ≡ s → IsTxn k s txn
+    → IsCovered t k.marks txn.objects
 is_covered k s txn t is was = subst (λ (n : ℕ). IsCovered n k.marks txn.objects) (sym is)
     (λ p of. was.objects (Proc p) ∙ ap (is_owner s) (was.own p of) ∙ eq-eqb s s refl)
 
 -- a process that exists and runs makes its steps
-pub is_actor : (actor : Actor) → IsWhole actor.parts.now → slot_at actor.parts.now.procs actor.pid.0 ≡ Some actor.proc.now → IsRunning (slot_at actor.parts.now.procs actor.pid.0) → IsActor actor
+pub is_actor : (actor : Actor) → IsWhole actor.parts.now
+    → slot_at actor.parts.now.procs actor.pid.0 ≡ Some actor.proc.now
+    → IsRunning (slot_at actor.parts.now.procs actor.pid.0) → IsActor actor
 is_actor actor whole there running =
     let bounds = slot_there actor.parts.now.procs actor.pid.0 actor.proc.now there in
-    record { whole = whole; number = record { low = bounds.0; high = bounds.1 }; there = there; runs = subst IsRunning there running }
+    record {
+      whole = whole;
+      number = record { low = bounds.0; high = bounds.1 };
+      there = there;
+      runs = subst IsRunning there running;
+    }

@@ -15,7 +15,8 @@ module _ {A : Type 0} (P : A → Type 0) where
   there None holds = absurd holds
   there (Some x) holds = (x, refl, holds)
 
-  follow : (Q : A → Type 0) (found : Option A) → ((x : A) → P x → Q x) → MatchOption found ⊥ P → MatchOption found ⊥ Q
+  follow : (Q : A → Type 0) (found : Option A) → ((x : A) → P x → Q x) → MatchOption found ⊥ P
+      → MatchOption found ⊥ Q
   follow Q None follows holds = absurd holds
   follow Q (Some x) follows holds = follows x holds
 
@@ -26,28 +27,34 @@ module _ {A : Type 0} (P : A → Type 0) where
   there_of found x is holds = subst (λ (it : Option A). MatchOption it ⊥ P) is holds
 
 -- what holds for what leads back, and all that follows
-pub back_so : (P Q : Inverse → Type 0) (crossing : Crossing) → ((inverse : Inverse) → P inverse → Q inverse) → HoldsBack crossing P → HoldsBack crossing Q
+pub back_so : (P Q : Inverse → Type 0) (crossing : Crossing)
+    → ((inverse : Inverse) → P inverse → Q inverse) → HoldsBack crossing P → HoldsBack crossing Q
 back_so P Q crossing = follow P Q (inverse_at crossing)
 
-pub forward_so : (P Q : Undone → Type 0) (crossing : Crossing) → ((undone : Undone) → P undone → Q undone) → HoldsForward crossing P → HoldsForward crossing Q
+pub forward_so : (P Q : Undone → Type 0) (crossing : Crossing)
+    → ((undone : Undone) → P undone → Q undone) → HoldsForward crossing P → HoldsForward crossing Q
 forward_so P Q crossing = follow P Q (undone_at crossing)
 
 -- what leads back has an inverse, and what leads forward has what makes its step again
-pub is_back : (P : Inverse → Type 0) (crossing : Crossing) → HoldsBack crossing P → (inverse : Inverse) × (inverse_at crossing ≡ Some inverse) × P inverse
+pub is_back : (P : Inverse → Type 0) (crossing : Crossing) → HoldsBack crossing P
+    → (inverse : Inverse) × (inverse_at crossing ≡ Some inverse) × P inverse
 is_back P crossing = there P (inverse_at crossing)
 
-pub is_forward : (P : Undone → Type 0) (crossing : Crossing) → HoldsForward crossing P → (undone : Undone) × (undone_at crossing ≡ Some undone) × P undone
+pub is_forward : (P : Undone → Type 0) (crossing : Crossing) → HoldsForward crossing P
+    → (undone : Undone) × (undone_at crossing ≡ Some undone) × P undone
 is_forward P crossing = there P (undone_at crossing)
 
 -- it holds for that inverse exactly if it holds for the place that has it
-module _ (P : Inverse → Type 0) (crossing : Crossing) (inverse : Inverse) (is : inverse_at crossing ≡ Some inverse) where
+module _ (P : Inverse → Type 0) (crossing : Crossing) (inverse : Inverse)
+    (is : inverse_at crossing ≡ Some inverse) where
   pub back_by : P inverse → HoldsBack crossing P
   back_by = there_by P (inverse_at crossing) inverse is
 
   pub back_of : HoldsBack crossing P → P inverse
   back_of = there_of P (inverse_at crossing) inverse is
 
-module _ (P : Undone → Type 0) (crossing : Crossing) (undone : Undone) (is : undone_at crossing ≡ Some undone) where
+module _ (P : Undone → Type 0) (crossing : Crossing) (undone : Undone)
+    (is : undone_at crossing ≡ Some undone) where
   pub forward_by : P undone → HoldsForward crossing P
   forward_by = there_by P (undone_at crossing) undone is
 
@@ -59,7 +66,9 @@ moved_turned : (it : Turn) → moved_by_turn it ≡ moved_by (undone_of it)
 moved_turned (turn.Outside log) = refl
 moved_turned (turn.Inside step) = refl
 
-pub moved_forward : (crossing : Crossing) (undone : Undone) → undone_at crossing ≡ Some undone → moved_over crossing ≡ moved_by undone
-moved_forward (Turning turn) undone is = moved_turned turn ∙ ap moved_by (same_Some (undone_of turn) undone is)
+pub moved_forward : (crossing : Crossing) (undone : Undone) → undone_at crossing ≡ Some undone
+    → moved_over crossing ≡ moved_by undone
+moved_forward (Turning turn) undone is =
+    moved_turned turn ∙ ap moved_by (same_Some (undone_of turn) undone is)
 moved_forward (Back inverse) undone is = absurd (let none : None ≡ Some undone = is in cc)
 moved_forward (Forward taken_back) undone is = ap moved_by (same_Some taken_back undone is)

@@ -1,4 +1,5 @@
--- The posts of a commit: of what the transaction held, to the parts, and to what is kept of the starters of others.
+-- The posts of a commit: of what the transaction held, to the parts, and to what is kept of the
+-- starters of others.
 use Rattle.std.specs.Prelude.{◌≡◌, ◌<◌, ℕ, ℤ, true, List, [], ◌∷◌, length, map, Option}
 use Rattle.tx_base.specs.declared.names.Sending.{Sending}
 use Rattle.tx_change.specs.Counts.{CountsAgree}
@@ -35,10 +36,13 @@ abbrev pub answers_in : List HeldPost → List ℤ
 answers_in posts = map (λ post. answer_of post.answer) posts
 
 -- the sends were posted, one after another, and each post came to this
-pub record PostsAll (before after : Parts) (old new : List (Option BoxedTxn)) (sendings : List Sending) (made : List HeldPost) : Type 0 where
+pub record PostsAll (before after : Parts) (old new : List (Option BoxedTxn))
+    (sendings : List Sending) (made : List HeldPost) : Type 0 where
   pub long : length made ≡ length sendings
-  pub state : (held : ℕ → List TheSending) → state_of held after ≡ after_posts (map sending_of sendings) (state_of held before)
-  pub answered : (held : ℕ → List TheSending) → answers_in made ≡ post_answers (map sending_of sendings) (state_of held before)
+  pub state : (held : ℕ → List TheSending)
+      → state_of held after ≡ after_posts (map sending_of sendings) (state_of held before)
+  pub answered : (held : ℕ → List TheSending)
+      → answers_in made ≡ post_answers (map sending_of sendings) (state_of held before)
   pub back : undone after (post_changes made) ≡ before
   pub named : AreNamed after (post_changes made)
   pub among : AreAmong (processes_of (map sending_of sendings)) (post_changes made)

@@ -34,7 +34,8 @@ use Rattle.tx_txn.specs.declared.txn.Txn.{Txn}
 
 -- what a step of a member is made inside
 abbrev pub inside_in : Content → Pid → Option TheInside
-inside_in k starter = option_map (λ boxed. inside_at boxed.txn.value k.marks) (slot_at k.txns starter.0)
+inside_in k starter =
+    option_map (λ boxed. inside_at boxed.txn.value k.marks) (slot_at k.txns starter.0)
 
 -- the event of a member that does this
 abbrev pub event_inside : Content → Member → Act → Event
@@ -42,11 +43,14 @@ event_inside k member act = event_of (inside_in k member.starter) member.pid act
 
 -- the set is the footprint of the event
 abbrev pub IsFootprint : Content → Event → Objects → Type 0
-IsFootprint k event footprint = (o : Object) → is_shared o ≡ true → is_in footprint o ≡ has_object o (event_footprint (table_at k.marks) event (now_of k))
+IsFootprint k event footprint =
+    (o : Object) → is_shared o ≡ true
+    → is_in footprint o ≡ has_object o (event_footprint (table_at k.marks) event (now_of k))
 
 -- no other transaction owns any of it
 abbrev pub IsFree : Content → ℕ → Objects → Type 0
-IsFree k starter footprint = (o : Object) → is_in footprint o ≡ true → unless (Some starter) (owner_of k.owners o) ≡ None
+IsFree k starter footprint =
+    (o : Object) → is_in footprint o ≡ true → unless (Some starter) (owner_of k.owners o) ≡ None
 
 -- what a step hands out
 abbrev pub handed_out : Sends → List Sending
@@ -65,18 +69,29 @@ is_handed_out Nothing = false
 is_handed_out (AtOnce m) = false
 is_handed_out (AtCommit m) = true
 
--- the event was made on the parts by a member of the transaction, whose log has what leads back and which holds what it handed out
-pub record MakesIn (before after : Parts) (marks : List (Option Mark)) (pid : Pid) (act : Act) (old new : Txn) (planned : Planned) : Type 0 where
+-- the event was made on the parts by a member of the transaction, whose log has what leads back and
+-- which holds what it handed out
+pub record MakesIn (before after : Parts) (marks : List (Option Mark)) (pid : Pid) (act : Act)
+    (old new : Txn) (planned : Planned) : Type 0 where
   pub inside : Inside
   pub is : transaction_of inside ≡ inside_at old marks
   pub held : inside.held ≡ member_sends (map sending_of old.outbox.sendings)
-  pub makes : Makes before pid (Some inside) (event_of (Some (inside_at old marks)) pid act) old.log new.log after planned
-  pub outbox : new.outbox ≡ record { sendings = old.outbox.sendings ++ handed_out planned.sends; posts = old.outbox.posts ++ unmade_of planned.sends }
+  pub makes :
+      Makes before pid (Some inside) (event_of (Some (inside_at old marks)) pid act) old.log new.log
+      after planned
+  pub outbox :
+      new.outbox
+      ≡ record {
+        sendings = old.outbox.sendings ++ handed_out planned.sends;
+        posts = old.outbox.posts ++ unmade_of planned.sends;
+      }
   pub rest : new ≡ record old { log = new.log; outbox = new.outbox }
 
 -- why a member of the transaction is refused its act
-pub record RefusesIn (before : Parts) (marks : List (Option Mark)) (pid : Pid) (act : Act) (txn : Txn) (why : Refusal) : Type 0 where
+pub record RefusesIn (before : Parts) (marks : List (Option Mark)) (pid : Pid) (act : Act)
+    (txn : Txn) (why : Refusal) : Type 0 where
   pub inside : Inside
   pub is : transaction_of inside ≡ inside_at txn marks
   pub held : inside.held ≡ member_sends (map sending_of txn.outbox.sendings)
-  pub refuses : RefusesEvent before (Some inside) (event_of (Some (inside_at txn marks)) pid act) why
+  pub refuses :
+      RefusesEvent before (Some inside) (event_of (Some (inside_at txn marks)) pid act) why

@@ -9,11 +9,17 @@ use Rattle.tx_txn.specs.Faces.{pending_after, pending_by, running}
 
 -- the transaction with this posted to what is kept of its starter
 abbrev pub posted_one : Sending → BoxedTxn → BoxedTxn
-posted_one m boxed = with_kept_pending (pending_after m (Some (running (ids_of boxed.txn.value.kept.ids))) boxed.txn.value.kept.pending) boxed
+posted_one m boxed =
+    with_kept_pending
+    (pending_after m (Some (running (ids_of boxed.txn.value.kept.ids)))
+    boxed.txn.value.kept.pending) boxed
 
 -- the transaction in the slot of n, with these sends posted to what is kept of its starter
 abbrev pub posted_at : ℕ → List Sending → BoxedTxn → BoxedTxn
-posted_at n ms boxed = with_kept_pending (pending_by n ms (Some (running (ids_of boxed.txn.value.kept.ids))) boxed.txn.value.kept.pending) boxed
+posted_at n ms boxed =
+    with_kept_pending
+    (pending_by n ms (Some (running (ids_of boxed.txn.value.kept.ids)))
+    boxed.txn.value.kept.pending) boxed
 
 -- the sends were posted to what is kept of live starters
 pub record PostsKept (old new : List (Option BoxedTxn)) (ms : List Sending) : Type 0 where

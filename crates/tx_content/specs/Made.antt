@@ -30,7 +30,8 @@ use Rattle.tx_txn.specs.Steps.{next_content, Logs}
 
 -- nobody else owns anything that the event reads and writes
 abbrev pub IsUnowned : Content → Option ℕ → Event → Type 0
-IsUnowned k own event = (o : Object) → has_object o (objects event (now_of k)) ≡ true → unless own (owner_at k o) ≡ None
+IsUnowned k own event =
+    (o : Object) → has_object o (objects event (now_of k)) ≡ true → unless own (owner_at k o) ≡ None
 
 -- the process exists and runs
 abbrev pub IsRunning : Option Proc → Type 0
@@ -38,9 +39,11 @@ IsRunning None = ⊥
 IsRunning (Some proc) = proc.status ≡ None
 
 -- the plan at the end of a log is one of the event: once exchanged, the event is made
-abbrev pub IsPlanned : Parts → Pid → Option Inside → Event → List Change → List Change → Planned → Type 0
+abbrev pub IsPlanned : Parts → Pid → Option Inside → Event → List Change → List Change → Planned
+    → Type 0
 IsPlanned parts pid inside event before between planned = (after : Parts) (now : List Change) →
-    after ≡ applied parts (drop (length before) between) → now ≡ take (length before) between ++ exchanged parts (drop (length before) between) →
+    after ≡ applied parts (drop (length before) between)
+    → now ≡ take (length before) between ++ exchanged parts (drop (length before) between) →
     Makes parts pid inside event before now after planned
 
 -- the changes are of what the event names, or for an abort, of what its transaction owns
@@ -48,10 +51,12 @@ abbrev pub AreLocal : Role → Event → Content → List Change → Type 0
 AreLocal Outside event k changes = AreAmong (named_by event (now_of k)) changes
 AreLocal (Within s progress) event k changes = AreAmong (named_by event (now_of k)) changes
 AreLocal (Commits s) event k changes = AreAmong (named_by event (now_of k)) changes
-AreLocal (Aborts s status) event k changes = (o : Object) → is_named o changes ≡ true → owner_at k o ≡ Some s
+AreLocal (Aborts s status) event k changes =
+    (o : Object) → is_named o changes ≡ true → owner_at k o ≡ Some s
 
 -- a step of this role was made: the content is the next one, and the inverse leads back
-pub record IsMade (old : Content) (role : Role) (event : Event) (process : ℕ) (new : Content) (inverse : Inverse) : Type 0 where
+pub record IsMade (old : Content) (role : Role) (event : Event) (process : ℕ) (new : Content)
+    (inverse : Inverse) : Type 0 where
   pub records : List Change
   pub logs : Logs role event records (content_of old)
   pub next : content_of new ≡ next_content role event process records (content_of old)
@@ -63,8 +68,14 @@ pub record IsMade (old : Content) (role : Role) (event : Event) (process : ℕ) 
 
 -- why a step was not made: want of memory, the rule of its event, or a bad number that it chooses
 abbrev pub RefusesStep : Content → Event → Refusal → Type 0
-RefusesStep k event why = (why ≡ NoMemory) ⊎ (effect event (now_of k) ≡ idle why) ⊎ ChoosesBadly k.parts why (choice_of event)
+RefusesStep k event why =
+    (why ≡ NoMemory)
+    ⊎ (effect event (now_of k) ≡ idle why)
+    ⊎ ChoosesBadly k.parts why (choice_of event)
 
--- the outcome gives the reply of the event; bytes that it shows are of the memory that the process has now
+-- the outcome gives the reply of the event; bytes that it shows are of the memory that the process
+-- has now
 abbrev pub Answers : Content → Event → Pid → Content → Outcome → Type 0
-Answers old event pid new outcome = reply_of event (now_of old) ≡ reply_with (memory_in (process_in (slot_at new.parts.procs pid.0))) outcome
+Answers old event pid new outcome =
+    reply_of event (now_of old)
+    ≡ reply_with (memory_in (process_in (slot_at new.parts.procs pid.0))) outcome

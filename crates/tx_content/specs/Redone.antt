@@ -37,11 +37,13 @@ use Rattle.tx_txn.specs.declared.txn.Txn.{Txn}
 
 -- with the post to what is kept made again
 abbrev pub reposted_at : Repost → BoxedTxn → BoxedTxn
-reposted_at posted boxed = with_kept_pending (posted_again posted boxed.txn.value.kept.pending) boxed
+reposted_at posted boxed =
+    with_kept_pending (posted_again posted boxed.txn.value.kept.pending) boxed
 
 abbrev pub reposted_by : Pid → Option Repost → List (Option BoxedTxn) → List (Option BoxedTxn)
 reposted_by starter None txns = txns
-reposted_by starter (Some posted) txns = with_slot txns starter.0 (option_map (reposted_at posted) (slot_at txns starter.0))
+reposted_by starter (Some posted) txns =
+    with_slot txns starter.0 (option_map (reposted_at posted) (slot_at txns starter.0))
 
 abbrev pub reposted_in : Option TakenPost → List (Option BoxedTxn) → List (Option BoxedTxn)
 reposted_in None txns = txns
@@ -54,18 +56,21 @@ post_in taken = option_map (λ taken. taken.post) taken
 -- the mark at the place where this one is put
 abbrev pub mark_there : Option Marked → List (Option Mark) → Option Marked
 mark_there None marks = None
-mark_there (Some marked) marks = Some (record { pid = marked.pid; mark = slot_at marks marked.pid.0 })
+mark_there (Some marked) marks =
+    Some (record { pid = marked.pid; mark = slot_at marks marked.pid.0 })
 
 -- what is held, with this added
 abbrev pub with_last : Option Sending → Held → Held
 with_last None held = held
-with_last (Some m) held = record { sendings = held.sendings ++ m ∷ []; posts = held.posts ++ unmade ∷ [] }
+with_last (Some m) held =
+    record { sendings = held.sendings ++ m ∷ []; posts = held.posts ++ unmade ∷ [] }
 
 -- this was held last, if anything was
 abbrev pub IsLastOf : Bool → Held → Option Sending → Type 0
 IsLastOf false held last = last ≡ None
 IsLastOf true held last =
-    (held.sendings ≡ (less_last true held).sendings ++ option_to_list last) × (length (less_last true held).posts + length (option_to_list last) ≡ length held.posts)
+    (held.sendings ≡ (less_last true held).sendings ++ option_to_list last)
+    × (length (less_last true held).posts + length (option_to_list last) ≡ length held.posts)
 
 -- the content after a step outside transactions
 abbrev pub after_outside : Content → List Change → Option TakenPost → Content
@@ -80,60 +85,97 @@ step_again parts step held stack txn = record txn {
 }
 
 -- the content after a step inside the transaction in the box
-pub record RedoesInside (k : Content) (step : MemberStep) (held : Option Sending) (stack : List Change) (after : Content) (boxed : BoxedTxn) : Type 0 where
+pub record RedoesInside (k : Content) (step : MemberStep) (held : Option Sending)
+    (stack : List Change) (after : Content) (boxed : BoxedTxn) : Type 0 where
   pub there : slot_at k.txns step.starter.0 ≡ Some boxed
   pub parts : applied k.parts (top_of step.count stack) ≡ after.parts
   pub marks : remarked step.marked k.marks ≡ after.marks
-  pub owners : (o : Object) → owner_of after.owners o ≡ (if is_in step.objects o then Some boxed.txn.value.starter.0 else owner_of k.owners o)
+  pub owners : (o : Object)
+      → owner_of after.owners o
+      ≡ (if is_in step.objects o then Some boxed.txn.value.starter.0 else owner_of k.owners o)
   pub sized : length after.owners ≡ 352
-  pub txns : with_slot k.txns step.starter.0 (Some (with_txn boxed (step_again k.parts step held stack boxed.txn.value))) ≡ after.txns
+  pub txns :
+      with_slot k.txns step.starter.0
+      (Some (with_txn boxed (step_again k.parts step held stack boxed.txn.value)))
+      ≡ after.txns
 
 -- the step with what it reserves and its mark exchanged for what is there now
 abbrev pub turned : Content → BoxedTxn → MemberStep → MemberStep
-turned k boxed step = record step { objects = boxed.txn.value.objects; marked = mark_there step.marked k.marks }
+turned k boxed step =
+    record step { objects = boxed.txn.value.objects; marked = mark_there step.marked k.marks }
 
 -- the content after the first step of the transaction in the box
-pub record RedoesBegun (k : Content) (boxed : BoxedTxn) (mark : Option Mark) (after : Content) : Type 0 where
+pub record RedoesBegun (k : Content) (boxed : BoxedTxn) (mark : Option Mark) (after : Content)
+    : Type 0 where
   pub parts : applied k.parts boxed.txn.value.log ≡ after.parts
   pub marks : with_slot k.marks boxed.txn.value.starter.0 mark ≡ after.marks
-  pub owners : (o : Object) → owner_of after.owners o ≡ (if is_in boxed.txn.value.objects o then Some boxed.txn.value.starter.0 else owner_of k.owners o)
+  pub owners : (o : Object)
+      → owner_of after.owners o
+      ≡ (if is_in boxed.txn.value.objects o
+      then Some boxed.txn.value.starter.0
+      else owner_of k.owners o)
   pub sized : length after.owners ≡ 352
-  pub txns : with_slot k.txns boxed.txn.value.starter.0 (Some (with_txn boxed (record boxed.txn.value { log = exchanged k.parts boxed.txn.value.log }))) ≡ after.txns
+  pub txns :
+      with_slot k.txns boxed.txn.value.starter.0
+      (Some
+      (with_txn boxed
+      (record boxed.txn.value { log = exchanged k.parts boxed.txn.value.log })))
+      ≡ after.txns
 
 -- the content after the abort of the transaction in the box, with its starter at this point
-pub record RedoesAborted (k : Content) (starter : Pid) (stands : TheAnswer) (after : Content) (boxed : BoxedTxn) : Type 0 where
+pub record RedoesAborted (k : Content) (starter : Pid) (stands : TheAnswer) (after : Content)
+    (boxed : BoxedTxn) : Type 0 where
   pub there : slot_at k.txns starter.0 ≡ Some boxed
-  pub parts : parts_after (led_parts k.parts boxed.txn.value) (standing_at starter stands) ≡ after.parts
-  pub marks : (n : ℕ) → slot_at after.marks n ≡ mark_unless_of boxed.txn.value.starter.0 (slot_at k.marks n)
+  pub parts :
+      parts_after (led_parts k.parts boxed.txn.value) (standing_at starter stands) ≡ after.parts
+  pub marks : (n : ℕ)
+      → slot_at after.marks n ≡ mark_unless_of boxed.txn.value.starter.0 (slot_at k.marks n)
   pub width : length after.marks ≡ length k.marks
-  pub owners : (o : Object) → owner_of after.owners o ≡ (if is_in boxed.txn.value.objects o then None else owner_of k.owners o)
+  pub owners : (o : Object)
+      → owner_of after.owners o
+      ≡ (if is_in boxed.txn.value.objects o then None else owner_of k.owners o)
   pub sized : length after.owners ≡ 352
   pub txns : with_slot k.txns starter.0 None ≡ after.txns
 
--- the content after the commit of the transaction in the box, whose last step makes the topmost changes and hands this out
-pub record RedoesCommitted (k : Content) (starter : Pid) (count : ℕ) (held : Option Sending) (stack : List Change) (after : Content) (boxed : BoxedTxn) : Type 0 where
+-- the content after the commit of the transaction in the box, whose last step makes the topmost
+-- changes and hands this out
+pub record RedoesCommitted (k : Content) (starter : Pid) (count : ℕ) (held : Option Sending)
+    (stack : List Change) (after : Content) (boxed : BoxedTxn) : Type 0 where
   pub there : slot_at k.txns starter.0 ≡ Some boxed
   pub made : List HeldPost
-  pub posts : PostsAll (applied k.parts (top_of count stack)) after.parts (with_slot k.txns starter.0 None) after.txns (with_last held boxed.txn.value.outbox).sendings made
-  pub marks : (n : ℕ) → slot_at after.marks n ≡ mark_unless_of boxed.txn.value.starter.0 (slot_at k.marks n)
+  pub posts :
+      PostsAll (applied k.parts (top_of count stack)) after.parts (with_slot k.txns starter.0 None)
+      after.txns (with_last held boxed.txn.value.outbox).sendings made
+  pub marks : (n : ℕ)
+      → slot_at after.marks n ≡ mark_unless_of boxed.txn.value.starter.0 (slot_at k.marks n)
   pub width : length after.marks ≡ length k.marks
-  pub owners : (o : Object) → owner_of after.owners o ≡ (if is_in boxed.txn.value.objects o then None else owner_of k.owners o)
+  pub owners : (o : Object)
+      → owner_of after.owners o
+      ≡ (if is_in boxed.txn.value.objects o then None else owner_of k.owners o)
   pub sized : length after.owners ≡ 352
 
 -- the inverse of that abort
 abbrev pub inverse_aborted : Content → Pid → Option Members → BoxedTxn → Inverse
 inverse_aborted k starter members boxed =
-    Aborted (with_txn boxed (record (led_txn k.parts boxed.txn.value) { members = members })) (standing (slot_at (led_parts k.parts boxed.txn.value).procs starter.0))
+    Aborted (with_txn boxed (record (led_txn k.parts boxed.txn.value) { members = members }))
+    (standing (slot_at (led_parts k.parts boxed.txn.value).procs starter.0))
 
 -- the step leads to this content, and its inverse is this one, if it is no commit
 abbrev pub Redoes : Content → Undone → List Change → Content → Inverse → Type 0
-Redoes k (taken.Outside log post) stack after inverse = (after_outside k log post ≡ after) × (Outside (exchanged k.parts log) (post_in post) ≡ inverse)
+Redoes k (taken.Outside log post) stack after inverse =
+    (after_outside k log post ≡ after) × (Outside (exchanged k.parts log) (post_in post) ≡ inverse)
 Redoes k (taken.Inside step held) stack after inverse =
-    (boxed : BoxedTxn) × RedoesInside k step held stack after boxed × (Inside (turned k boxed step) (is_some held) ≡ inverse)
-Redoes k (taken.Begun boxed mark) stack after inverse = RedoesBegun k boxed mark after × (Begun boxed.txn.value.starter ≡ inverse)
-Redoes k (taken.Committed starter count held) stack after inverse = (boxed : BoxedTxn) × RedoesCommitted k starter count held stack after boxed
+    (boxed : BoxedTxn)
+    × RedoesInside k step held stack after boxed
+    × (Inside (turned k boxed step) (is_some held) ≡ inverse)
+Redoes k (taken.Begun boxed mark) stack after inverse =
+    RedoesBegun k boxed mark after × (Begun boxed.txn.value.starter ≡ inverse)
+Redoes k (taken.Committed starter count held) stack after inverse =
+    (boxed : BoxedTxn) × RedoesCommitted k starter count held stack after boxed
 Redoes k (taken.Aborted starter stands members) stack after inverse =
-    (boxed : BoxedTxn) × RedoesAborted k starter stands after boxed × (inverse_aborted k starter members boxed ≡ inverse)
+    (boxed : BoxedTxn)
+    × RedoesAborted k starter stands after boxed
+    × (inverse_aborted k starter members boxed ≡ inverse)
 
 -- how many changes of the stack are the step's own
 abbrev pub moved_by : Undone → ℕ
@@ -175,8 +217,10 @@ pub record HasEnd (k : Content) (starter : Pid) : Type 0 where
   pub named : AreNamed k.parts boxed.txn.value.log
   pub covered : IsCovered starter.0 k.marks boxed.txn.value.objects
 
--- there is such a transaction, whose last step makes the topmost changes, and which can post what it holds and be ended
-pub record HasCommit (k : Content) (starter : Pid) (count : ℕ) (held : Option Sending) (stack : List Change) : Type 0 where
+-- there is such a transaction, whose last step makes the topmost changes, and which can post what
+-- it holds and be ended
+pub record HasCommit (k : Content) (starter : Pid) (count : ℕ) (held : Option Sending)
+    (stack : List Change) : Type 0 where
   pub boxed : BoxedTxn
   pub there : slot_at k.txns starter.0 ≡ Some boxed
   pub same : boxed.txn.value.starter ≡ starter
@@ -205,23 +249,31 @@ pub record IsGone (k : Content) (txn : Txn) (members : Members) : Type 0 where
 -- what the transaction held was posted, with the outcomes that its outbox says
 pub record WasPosted (k : Content) (txn : Txn) : Type 0 where
   pub signals : HaveSignals (map sending_of txn.outbox.sendings)
-  pub posts : PostsAll (undone k.parts (post_changes txn.outbox.posts)) k.parts (unposted_all txn.outbox.sendings txn.outbox.posts k.txns) k.txns txn.outbox.sendings txn.outbox.posts
+  pub posts :
+      PostsAll (undone k.parts (post_changes txn.outbox.posts)) k.parts
+      (unposted_all txn.outbox.sendings txn.outbox.posts k.txns) k.txns txn.outbox.sendings
+      txn.outbox.posts
 
--- the transaction that the step ended, if any, is gone, and what it held was posted, if it was committed
+-- the transaction that the step ended, if any, is gone, and what it held was posted, if it was
+-- committed
 abbrev pub EndsWhole : Content → Inverse → Type 0
 EndsWhole k (Outside log post) = Unit {0}
 EndsWhole k (Inside step held) = Unit {0}
 EndsWhole k (Begun starter) = Unit {0}
-EndsWhole k (Committed boxed count held) = (members : Members) × IsGone k boxed.txn.value members × WasPosted k boxed.txn.value
+EndsWhole k (Committed boxed count held) =
+    (members : Members) × IsGone k boxed.txn.value members × WasPosted k boxed.txn.value
 EndsWhole k (Aborted boxed stood) = (members : Members) × IsGone k boxed.txn.value members
 
--- the inverse takes back the step from the one content to the other, which left nothing of what it ended
+-- the inverse takes back the step from the one content to the other, which left nothing of what it
+-- ended
 abbrev pub TakesBack : Content → Content → Inverse → Type 0
-TakesBack before after inverse = GoesWith after inverse × Undoes after inverse before × EndsWhole after inverse
+TakesBack before after inverse =
+    GoesWith after inverse × Undoes after inverse before × EndsWhole after inverse
 
--- the step that led to this content was taken back: on the content before, what makes it again leads to this one, and the stack is then as
--- it was; the inverse leads to the content before
-pub record IsTakenBack (before : Content) (undone : Undone) (stack : List Change) (after : Content) (rest : List Change) : Type 0 where
+-- the step that led to this content was taken back: on the content before, what makes it again
+-- leads to this one, and the stack is then as it was; the inverse leads to the content before
+pub record IsTakenBack (before : Content) (undone : Undone) (stack : List Change) (after : Content)
+    (rest : List Change) : Type 0 where
   pub inverse : Inverse
   pub fits : GoesAgain before undone stack
   pub redoes : Redoes before undone stack after inverse

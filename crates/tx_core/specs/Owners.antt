@@ -6,4 +6,6 @@ use Rattle.tx_model.specs.View.{View, least}
 
 -- the starter of the live transaction that has reserved the object and that the process is not in
 abbrev pub other_owner : View → ℕ → Object → Option ℕ
-other_owner V p o = least (λ s. is_live V.table s && (not (is_member_of V.table s p) && V.reserved s o)) V.table.width
+other_owner V p o =
+    least (λ s. is_live V.table s && (not (is_member_of V.table s p) && V.reserved s o))
+    V.table.width

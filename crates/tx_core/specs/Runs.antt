@@ -22,17 +22,23 @@ abbrev pub steps_made : Option ℕ → List Step → List Step
 steps_made None steps = steps
 steps_made (Some stopped) steps = take stopped steps
 
--- the entries, the oldest first, are the history of the steps from a start state; it is lawful, and the machine has its view
-pub record RunsFrom (start : State) (steps : List Step) (machine : Content) (entries : List Accepted) : Type 0 where
+-- the entries, the oldest first, are the history of the steps from a start state; it is lawful, and
+-- the machine has its view
+pub record RunsFrom (start : State) (steps : List Step) (machine : Content)
+    (entries : List Accepted) : Type 0 where
   pub history : reverse entries ≡ history_of start [] steps
   pub lawful : Lawful start (reverse entries)
   pub view : view_of machine ≡ view start (reverse entries)
 
--- a lawful history with the view of the one content is lawful with this step added, and has the view of the other then
+-- a lawful history with the view of the one content is lawful with this step added, and has the
+-- view of the other then
 abbrev pub Continues : Content → Accepted → Content → Type 0
-Continues before step after = (start : State) (earlier : List Accepted) → Lawful start earlier → view_of before ≡ view start earlier →
+Continues before step after =
+    (start : State) (earlier : List Accepted) → Lawful start earlier
+    → view_of before ≡ view start earlier →
     Lawful start (step ∷ earlier) × (view_of after ≡ view start (step ∷ earlier))
 
 -- the kernel's abort of a starter's transaction, with the status that it has then
 abbrev pub kernel_abort_on : Content → Pid → Accepted
-kernel_abort_on k starter = record { step = KernelAbort starter; reply = Aborted (kernel_status (view_of k) starter.0) }
+kernel_abort_on k starter =
+    record { step = KernelAbort starter; reply = Aborted (kernel_status (view_of k) starter.0) }

@@ -8,14 +8,16 @@ use Rattle.tx_content.specs.declared.content.Content.{Content}
 use Rattle.tx_content.specs.declared.inverse.Inverse.{Inverse}
 use Rattle.tx_content.specs.declared.undone.Undone.{Undone}
 
--- the content is as the step with this inverse left it: the inverse leads back to what a machine may keep
+-- the content is as the step with this inverse left it: the inverse leads back to what a machine
+-- may keep
 pub record LeadsBack (k : Content) (inverse : Inverse) : Type 0 where
   pub before : Content
   pub machine : IsMachine before
   pub goes : GoesWith k inverse
   pub back : Undoes k inverse before
 
--- the content is as it was before the step that this makes again: it leads to what a machine may keep
+-- the content is as it was before the step that this makes again: it leads to what a machine may
+-- keep
 pub record LeadsOn (k : Content) (undone : Undone) (stack : List Change) : Type 0 where
   pub after : Content
   pub machine : IsMachine after

@@ -18,7 +18,8 @@ abbrev pub HasNames : ℕ → Option Opened → Type 0
 HasNames n None = n ≡ 0
 HasNames n (Some opened) = (0 < n) × (opened.names ≡ n)
 
--- each description has the number of its names in these tables, and is there exactly where it has one
+-- each description has the number of its names in these tables, and is there exactly where it has
+-- one
 pub record Agrees (tables : List Descriptors) (descs : List (Option Opened)) : Type 0 where
   pub counted : (d : ℕ) → HasNames (names_in d tables) (slice_index_or descs d None)
 
@@ -42,9 +43,11 @@ abbrev pub HasRoom : ℕ → Option ℕ → List (Option Opened) → Type 0
 HasRoom room None descs = Unit {0}
 HasRoom room (Some d) descs = IsEnough 1 room (slice_index_or descs d None)
 
--- where these descriptors become new ones, and the descriptions those after, counts that are right stay so: of each number, however many others name it
+-- where these descriptors become new ones, and the descriptions those after, counts that are right
+-- stay so: of each number, however many others name it
 pub record KeepsCounts (table new : Descriptors) (descs after : List (Option Opened)) : Type 0 where
-  pub each : (d others : ℕ) → HasNames (count_in d table + others) (slice_index_or descs d None) → HasNames (count_in d new + others) (slice_index_or after d None)
+  pub each : (d others : ℕ) → HasNames (count_in d table + others) (slice_index_or descs d None)
+      → HasNames (count_in d new + others) (slice_index_or after d None)
 
 -- a descriptor of the state names a description exactly where one of these does
 abbrev pub HasNamed : State → List Descriptors → Type 0
@@ -58,7 +61,8 @@ table_of (Some q) = if is_some q.status then [] else q.descriptors ∷ []
 -- the descriptors of the processes that run, of numbers below n, except those of process p
 unfoldable pub others_below : ℕ → ℕ → State → List Descriptors
 others_below p zero S = []
-others_below p (suc q) S = if q == p then others_below p q S else table_of (S.procs q) ++ others_below p q S
+others_below p (suc q) S =
+    if q == p then others_below p q S else table_of (S.procs q) ++ others_below p q S
 
 -- the descriptors of all other processes that run
 abbrev pub others_of : ℕ → State → List Descriptors

@@ -17,7 +17,8 @@ end_for Read = ReadSide
 end_for Write = WriteSide
 
 abbrev pub description_of : Desc → Description
-description_of desc = record { pipe = desc.pipe.0; side = end_for desc.side; nonblock = desc.nonblock }
+description_of desc =
+    record { pipe = desc.pipe.0; side = end_for desc.side; nonblock = desc.nonblock }
 
 abbrev pub described : Option Opened → Option Description
 described None = None
@@ -52,12 +53,20 @@ with_more n (Some opened) = Some (record { desc = opened.desc; names = opened.na
 -- what is there with so many names fewer: nothing where no name is left
 abbrev pub with_fewer : ℕ → Option Opened → Option Opened
 with_fewer n None = None
-with_fewer n (Some opened) = if nat_lt n opened.names then Some (record { desc = opened.desc; names = opened.names - n }) else None
+with_fewer n (Some opened) =
+    if nat_lt n opened.names
+    then Some (record { desc = opened.desc; names = opened.names - n })
+    else None
 
 -- what is there, with O_NONBLOCK set or not
 abbrev pub with_flag : Bool → Option Opened → Option Opened
 with_flag on None = None
-with_flag on (Some opened) = Some (record { desc = record { pipe = opened.desc.pipe; side = opened.desc.side; nonblock = on }; names = opened.names })
+with_flag on (Some opened) =
+    Some
+    (record {
+      desc = record { pipe = opened.desc.pipe; side = opened.desc.side; nonblock = on };
+      names = opened.names;
+    })
 
 -- what is there once so many names came or were given up; as it was where there are none
 abbrev pub recounted : Names → ℕ → Option Opened → Option Opened
@@ -65,13 +74,15 @@ recounted More n place = if nat_lt 0 n then with_more n place else place
 recounted Fewer n place = if nat_lt 0 n then with_fewer n place else place
 
 -- the descriptions with what a number has changed so, if there is a number
-abbrev pub changed_at : (Option Opened → Option Opened) → Option ℕ → List (Option Opened) → List (Option Opened)
+abbrev pub changed_at : (Option Opened → Option Opened) → Option ℕ → List (Option Opened)
+    → List (Option Opened)
 changed_at change None descs = descs
 changed_at change (Some d) descs = slice_set descs d (change (slice_index_or descs d None))
 
 -- a new description of a side of a pipe, with its first name
 abbrev pub first_named : PipeNo → Side → Opened
-first_named pipe side = record { desc = record { pipe = pipe; side = side; nonblock = false }; names = 1 }
+first_named pipe side =
+    record { desc = record { pipe = pipe; side = side; nonblock = false }; names = 1 }
 
 -- the description that was there and is gone
 abbrev pub gone_between : Option Opened → Option Opened → Option Desc
@@ -82,4 +93,6 @@ gone_between (Some opened) (Some new) = None
 -- which description went with the name that was given up, if any
 abbrev pub IsGone : Option Given → List (Option Opened) → List (Option Opened) → Type 0
 IsGone None old new = Unit {0}
-IsGone (Some given) old new = given.gone ≡ gone_between (slice_index_or old given.number.0 None) (slice_index_or new given.number.0 None)
+IsGone (Some given) old new =
+    given.gone
+    ≡ gone_between (slice_index_or old given.number.0 None) (slice_index_or new given.number.0 None)

@@ -17,7 +17,8 @@ count_at side k counts = slice_index_or counts (end_number side k) 0
 -- there are 64 places, and each side of each pipe has the count of its descriptions there
 pub record IsCounted (places : List (Option Opened)) (counts : List ℕ) : Type 0 where
   pub sized : length places ≡ 64
-  pub each : (side : Side) (k : ℕ) → k < 256 → count_at side k counts ≡ count_by (is_end_of side k) places
+  pub each : (side : Side) (k : ℕ) → k < 256
+      → count_at side k counts ≡ count_by (is_end_of side k) places
 
 -- what a place adds to the count of a side of a pipe
 abbrev pub one_of : Side → ℕ → Option Opened → ℕ
@@ -25,7 +26,8 @@ one_of side k place = if is_end_of side k place then 1 else 0
 
 -- the counts after what the one place has is replaced by what the other has
 pub record Recounts (old new : Option Opened) (counts recounted : List ℕ) : Type 0 where
-  pub each : (side : Side) (k : ℕ) → k < 256 → count_at side k recounted + one_of side k old ≡ count_at side k counts + one_of side k new
+  pub each : (side : Side) (k : ℕ) → k < 256
+      → count_at side k recounted + one_of side k old ≡ count_at side k counts + one_of side k new
 
 -- what the place has is counted, and each side of each pipe has room for one more
 pub record HasOne (place : Option Opened) (counts : List ℕ) : Type 0 where

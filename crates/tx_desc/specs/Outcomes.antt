@@ -14,7 +14,8 @@ use Rattle.tx_desc.specs.declared.given.Renamed.{Renamed}
 use Rattle.tx_desc.specs.Places.{Descriptors}
 use Rattle.tx_desc.specs.Descriptions.{description_at}
 
--- the process, of a number within the width, runs and has these descriptors; every process has sixteen
+-- the process, of a number within the width, runs and has these descriptors; every process has
+-- sixteen
 pub record RunsWith (p : ℕ) (me : Process) (S : State) (table : Descriptors) : Type 0 where
   pub sized : (n : ℕ) (q : Process) → S.procs n ≡ Some q → length q.descriptors ≡ DESCRIPTORS
   pub within : is_between S.width p ≡ true
@@ -32,10 +33,12 @@ effect_in rule c = effect_of c.number c.process (rule c)
 abbrev pub state_after : Rule → Caller → State
 state_after rule c = before_sends (effect_in rule c) c.state
 
-abbrev pub pipe_outcome : ℕ → ℕ → ℕ → Result (ℕ × ℕ) Errno → Descriptors → List (Option Opened) → Rule
+abbrev pub pipe_outcome : ℕ → ℕ → ℕ → Result (ℕ × ℕ) Errno → Descriptors → List (Option Opened)
+    → Rule
 pipe_outcome q r w (Ok fds) table descs c =
     changes (pos 0) (with_two_slots fds.0 fds.1 (with_table table c.process))
-    (SetPipe q (Some []) ∷ SetDesc r (description_at descs r) ∷ SetDesc w (description_at descs w) ∷ [])
+    (SetPipe q (Some []) ∷ SetDesc r (description_at descs r) ∷ SetDesc w (description_at descs w)
+    ∷ [])
 pipe_outcome q r w (Err errno) table descs c = fails errno
 
 abbrev pub dup_outcome : Result ℕ Errno → Descriptors → Rule
@@ -48,11 +51,13 @@ given_up None = []
 given_up (Some given) = given.number.0 ∷ []
 
 abbrev pub dup2_outcome : Result Renamed Errno → Descriptors → Rule
-dup2_outcome (Ok renamed) table c = release (given_up renamed.given) (pos renamed.fd) (with_table table c.process) c
+dup2_outcome (Ok renamed) table c =
+    release (given_up renamed.given) (pos renamed.fd) (with_table table c.process) c
 dup2_outcome (Err errno) table c = fails errno
 
 abbrev pub close_outcome : Result Given Errno → Descriptors → Rule
-close_outcome (Ok given) table c = release (given.number.0 ∷ []) (pos 0) (with_table table c.process) c
+close_outcome (Ok given) table c =
+    release (given.number.0 ∷ []) (pos 0) (with_table table c.process) c
 close_outcome (Err errno) table c = fails errno
 
 abbrev pub described_again : Option ℕ → List (Option Opened) → List Write

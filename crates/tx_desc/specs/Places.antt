@@ -34,6 +34,7 @@ abbrev pub free_beside : ℕ → Descriptors → Option ℕ → Option ℕ
 free_beside d table None = None
 free_beside d table (Some f) = first_free 0 (slice_set table f (Some d))
 
--- the two lowest free descriptors, the lower one first: the second is free once the first names description d
+-- the two lowest free descriptors, the lower one first: the second is free once the first names
+-- description d
 abbrev pub two_free : ℕ → Descriptors → Option (ℕ × ℕ)
 two_free d table = with_second (first_free 0 table) (free_beside d table (first_free 0 table))

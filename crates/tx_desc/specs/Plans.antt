@@ -53,7 +53,8 @@ AreInRange puts = AreFds puts.names × AreNumbers puts.descs
 
 -- an error puts nothing in place
 abbrev pub pipe_puts : Result PipePlan Errno → Puts
-pipe_puts (Ok plan) = record { names = plan.read_name ∷ plan.write_name ∷ []; descs = plan.read ∷ plan.write ∷ [] }
+pipe_puts (Ok plan) =
+    record { names = plan.read_name ∷ plan.write_name ∷ []; descs = plan.read ∷ plan.write ∷ [] }
 pipe_puts (Err errno) = record { names = []; descs = [] }
 
 abbrev pub dup_puts : Result DupPlan Errno → Puts
@@ -66,7 +67,8 @@ listed_desc (Some new) = new ∷ []
 
 abbrev pub rename_puts : Option Rename → Puts
 rename_puts None = record { names = []; descs = [] }
-rename_puts (Some rename) = record { names = rename.name ∷ []; descs = rename.named ∷ listed_desc rename.left }
+rename_puts (Some rename) =
+    record { names = rename.name ∷ []; descs = rename.named ∷ listed_desc rename.left }
 
 abbrev pub dup2_puts : Result Dup2Plan Errno → Puts
 dup2_puts (Ok plan) = rename_puts plan.rename
@@ -84,7 +86,8 @@ nonblock_puts (Err errno) = record { names = []; descs = [] }
 -- name fewer
 abbrev pub RenamesOf : Option ℕ → Option ℕ → Option Rename → Type 0
 RenamesOf named left None = Unit {0}
-RenamesOf named left (Some rename) = (named ≡ Some rename.named.number.0) × (left ≡ option_map (λ new. new.number.0) rename.left)
+RenamesOf named left (Some rename) =
+    (named ≡ Some rename.named.number.0) × (left ≡ option_map (λ new. new.number.0) rename.left)
 
 -- the two descriptors of a rename are not the same one
 abbrev pub IsOfTwo : Option ℕ → Option ℕ → Option Rename → Type 0
@@ -94,7 +97,8 @@ IsOfTwo f g (Some rename) = f ≢ g
 -- the name that a rename gives up is of the description that gets a name fewer
 abbrev pub GivesLeft : Option Given → Option Rename → Type 0
 GivesLeft given None = Unit {0}
-GivesLeft given (Some rename) = option_map (λ g. g.number.0) given ≡ option_map (λ new. new.number.0) rename.left
+GivesLeft given (Some rename) =
+    option_map (λ g. g.number.0) given ≡ option_map (λ new. new.number.0) rename.left
 
 -- the answer of a call, of its plan
 abbrev pub answer_of : {A B : Type 0} → (A → B) → Result A Errno → Result B Errno
@@ -107,7 +111,13 @@ desc_fewer descs d = record { number = d; opened = with_fewer 1 (slice_index_or 
 
 -- the name that is given up, and what goes with it
 abbrev pub given_fewer : List (Option Opened) → DescNo → Given
-given_fewer descs d = record { number = d; gone = gone_between (slice_index_or descs d.0 None) (with_fewer 1 (slice_index_or descs d.0 None)) }
+given_fewer descs d =
+    record {
+      number = d;
+      gone =
+          gone_between (slice_index_or descs d.0 None)
+          (with_fewer 1 (slice_index_or descs d.0 None));
+    }
 
 -- there are 64 numbers, and these two are free
 pub record AreFree (r w : ℕ) (descs : List (Option Opened)) : Type 0 where

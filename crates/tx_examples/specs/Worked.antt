@@ -11,16 +11,20 @@ use Rattle.tx_examples.specs.WorkedSteps.{calls, kernel, store, fork, kill, ok, 
 
 -- a transaction that maps a page, stores into it, and aborts itself
 abbrev pub taken_back : List Step
-taken_back = calls 2 SysXbegin ∷ calls 2 (Map (pos 0)) ∷ calls 2 (store (pos 5) (65 ∷ [])) ∷ calls 2 SysXabort ∷ []
+taken_back =
+    calls 2 SysXbegin ∷ calls 2 (Map (pos 0)) ∷ calls 2 (store (pos 5) (65 ∷ []))
+    ∷ calls 2 SysXabort ∷ []
 
 abbrev pub TakenBackAnswers : Type 0
-TakenBackAnswers = answers_of (boot_state 64 2) [] taken_back ≡ ok 0 ∷ ok 0 ∷ ok 0 ∷ Aborted 201 ∷ []
+TakenBackAnswers =
+    answers_of (boot_state 64 2) [] taken_back ≡ ok 0 ∷ ok 0 ∷ ok 0 ∷ Aborted 201 ∷ []
 
 -- its process is after its sys_xbegin with the status as an error, and has no page; the other is as
 -- booted
 abbrev pub TakenBackState : Type 0
 TakenBackState =
-    ((state_after (boot_state 64 2) taken_back).procs 2 ≡ Some (standing 2 1 (negsuc 200) no_memory))
+    ((state_after (boot_state 64 2) taken_back).procs 2
+    ≡ Some (standing 2 1 (negsuc 200) no_memory))
     × ((state_after (boot_state 64 2) taken_back).procs 1 ≡ Some (booted_process 1))
 
 -- two transactions side by side: the kernel aborts that of process 3, and that of process 2 commits
@@ -59,13 +63,16 @@ SideBySideAnswers =
 
 -- one page, which may be written, with 255 in byte 1
 abbrev pub stored_page : Memory
-stored_page = Some (record { writable = true; bytes = 0 ∷ 255 ∷ replicate 62 0 }) ∷ replicate 15 None
+stored_page =
+    Some (record { writable = true; bytes = 0 ∷ 255 ∷ replicate 62 0 }) ∷ replicate 15 None
 
 abbrev pub SideBySideState : Type 0
 SideBySideState =
     ((state_after (boot_state 64 3) side_by_side).procs 1 ≡ Some (booted_process 1))
-    × ((state_after (boot_state 64 3) side_by_side).procs 2 ≡ Some (standing 2 6 (pos 0) stored_page))
-    × ((state_after (boot_state 64 3) side_by_side).procs 3 ≡ Some (standing 3 2 (negsuc 21) no_memory))
+    × ((state_after (boot_state 64 3) side_by_side).procs 2
+    ≡ Some (standing 2 6 (pos 0) stored_page))
+    × ((state_after (boot_state 64 3) side_by_side).procs 3
+    ≡ Some (standing 3 2 (negsuc 21) no_memory))
 
 -- a transaction does not begin in another one, nor end where there is none; the kernel aborts it
 -- only by its starter's number, and any member aborts it
@@ -115,7 +122,8 @@ begun_again =
 
 abbrev pub BegunAgainAnswers : Type 0
 BegunAgainAnswers =
-    answers_of (boot_state 64 3) [] begun_again ≡ ok 0 ∷ ok 0 ∷ ok 0 ∷ Aborted 201 ∷ ok 0 ∷ ok 0 ∷ ok 0 ∷ committed ∷ []
+    answers_of (boot_state 64 3) [] begun_again
+    ≡ ok 0 ∷ ok 0 ∷ ok 0 ∷ Aborted 201 ∷ ok 0 ∷ ok 0 ∷ ok 0 ∷ committed ∷ []
 
 -- page 1 of zeros
 abbrev pub second_page : Memory
@@ -124,4 +132,5 @@ second_page = None ∷ Some (record { writable = true; bytes = replicate 64 0 })
 abbrev pub BegunAgainState : Type 0
 BegunAgainState =
     let S : State = state_after (boot_state 64 3) begun_again in
-    (S.procs 2 ≡ Some (standing 2 5 (pos 0) second_page)) × (S.procs 3 ≡ Some (with_one_pending 12 (booted_process 3)))
+    (S.procs 2 ≡ Some (standing 2 5 (pos 0) second_page))
+    × (S.procs 3 ≡ Some (with_one_pending 12 (booted_process 3)))

@@ -10,8 +10,8 @@ use Rattle.tx_model.specs.State.{State, boot_state}
 use Rattle.tx_model.specs.Schedules.{answers_of}
 use Rattle.tx_examples.specs.WorkedSteps.{calls, delivery, kill, sigqueue, block, unblock, block_only, catch, caught_and_unblocked, ok, error, state_after, standing, exited, killed_by, with_one_action, with_mask, with_one_pending, entry, with_queue, saved_at, with_frames}
 
--- a signal is caught: it is blocked meanwhile, with those of its action (4,096 is the set of signal 12, 5,120 that of 10
--- and 12)
+-- a signal is caught: it is blocked meanwhile, with those of its action (4,096 is the set of signal
+-- 12, 5,120 that of 10 and 12)
 abbrev pub caught : List Step
 caught = calls 2 (catch 10 40 4096) ∷ calls 3 (kill 2 10) ∷ delivery 2 10 ∷ calls 2 Getpid ∷ []
 
@@ -27,7 +27,8 @@ abbrev pub caught_back : List Step
 caught_back = caught ++ calls 2 Sigreturn ∷ []
 
 abbrev pub CaughtBackAnswers : Type 0
-CaughtBackAnswers = answers_of (boot_state 64 3) [] caught_back ≡ ok 0 ∷ ok 0 ∷ ok 0 ∷ ok 2 ∷ ok 0 ∷ []
+CaughtBackAnswers =
+    answers_of (boot_state 64 3) [] caught_back ≡ ok 0 ∷ ok 0 ∷ ok 0 ∷ ok 2 ∷ ok 0 ∷ []
 
 abbrev pub CaughtBackState : Type 0
 CaughtBackState =
@@ -58,9 +59,11 @@ full_frames =
 
 abbrev pub FullFramesAnswers : Type 0
 FullFramesAnswers =
-    answers_of (boot_state 64 3) [] full_frames ≡ replicate 14 (ok 0) ++ No FramesFull ∷ ok 0 ∷ ok 0 ∷ []
+    answers_of (boot_state 64 3) [] full_frames
+    ≡ replicate 14 (ok 0) ++ No FramesFull ∷ ok 0 ∷ ok 0 ∷ []
 
--- realtime signals: the lowest number that is not blocked first, and those of a number in their order
+-- realtime signals: the lowest number that is not blocked first, and those of a number in their
+-- order
 abbrev pub realtime_in_turn : List Step
 realtime_in_turn =
     calls 2 (catch 34 40 0)
@@ -100,8 +103,8 @@ RealtimeInTurnAnswers =
     ∷ error 22
     ∷ []
 
--- to ignore a signal discards it where it is pending; it may be pending again while it is blocked. SIGKILL is neither
--- ignored nor blocked
+-- to ignore a signal discards it where it is pending; it may be pending again while it is blocked.
+-- SIGKILL is neither ignored nor blocked
 abbrev pub ignored : List Step
 ignored =
     calls 2 (block 1536)
@@ -162,7 +165,8 @@ caught_again =
 
 abbrev pub CaughtAgainAnswers : Type 0
 CaughtAgainAnswers =
-    answers_of (boot_state 64 2) [] caught_again ≡ replicate 14 (ok 0) ++ No FramesFull ∷ ok 0 ∷ ok 0 ∷ []
+    answers_of (boot_state 64 2) [] caught_again
+    ≡ replicate 14 (ok 0) ++ No FramesFull ∷ ok 0 ∷ ok 0 ∷ []
 
 abbrev pub CaughtAgainState : Type 0
 CaughtAgainState =
@@ -170,10 +174,12 @@ CaughtAgainState =
     (S.procs 1 ≡ Some (standing 1 5 (pos 0) no_memory))
     × (S.procs 2
     ≡ Some (with_one_action 10 (Catch 50 (record { 0 = 0 }))
-    (with_mask 1024 (with_frames (saved_at 1 ∷ saved_at 51 ∷ saved_at 51 ∷ saved_at 51 ∷ []) (standing 2 50 (pos 0) no_memory)))))
+    (with_mask 1024
+    (with_frames (saved_at 1 ∷ saved_at 51 ∷ saved_at 51 ∷ saved_at 51 ∷ [])
+    (standing 2 50 (pos 0) no_memory)))))
 
--- a catch point is 0 to 65,535, and the mask of an action holds neither SIGKILL nor a number that is not known (4,624 is
--- the set of 4, 9 and 12)
+-- a catch point is 0 to 65,535, and the mask of an action holds neither SIGKILL nor a number that
+-- is not known (4,624 is the set of 4, 9 and 12)
 abbrev pub catch_points : List Step
 catch_points =
     calls 2 (catch 10 65536 0)
@@ -183,7 +189,8 @@ catch_points =
     ∷ []
 
 abbrev pub CatchPointsAnswers : Type 0
-CatchPointsAnswers = answers_of (boot_state 64 3) [] catch_points ≡ error 22 ∷ ok 0 ∷ ok 0 ∷ ok 0 ∷ []
+CatchPointsAnswers =
+    answers_of (boot_state 64 3) [] catch_points ≡ error 22 ∷ ok 0 ∷ ok 0 ∷ ok 0 ∷ []
 
 abbrev pub CatchPointsState : Type 0
 CatchPointsState =
@@ -233,8 +240,8 @@ MasksState =
     (state_after (boot_state 64 3) masks).procs 2
     ≡ Some (with_mask 4096 (record (standing 2 10 (pos 4096) no_memory) { pending = 37890 }))
 
--- to ignore a signal discards every pending one of it and no other; so does the usual action of SIGCHLD, and that of
--- another signal does not. There is no action for a number that is no signal
+-- to ignore a signal discards every pending one of it and no other; so does the usual action of
+-- SIGCHLD, and that of another signal does not. There is no action for a number that is no signal
 abbrev pub discards : List Step
 discards =
     calls 3 (sigqueue 2 34 1)
@@ -252,9 +259,13 @@ discards =
     ∷ []
 
 abbrev pub DiscardsAnswers : Type 0
-DiscardsAnswers = answers_of (boot_state 64 3) [] discards ≡ replicate 8 (ok 0) ++ replicate 4 (error 22)
+DiscardsAnswers =
+    answers_of (boot_state 64 3) [] discards ≡ replicate 8 (ok 0) ++ replicate 4 (error 22)
 
 abbrev pub DiscardsState : Type 0
 DiscardsState =
     (state_after (boot_state 64 3) discards).procs 2
-    ≡ Some (with_one_action 34 Ignore (with_one_pending 10 (with_queue (entry 35 2 ∷ []) (standing 2 7 (negsuc 21) no_memory))))
+    ≡ Some
+    (with_one_action 34 Ignore
+    (with_one_pending 10
+    (with_queue (entry 35 2 ∷ []) (standing 2 7 (negsuc 21) no_memory))))

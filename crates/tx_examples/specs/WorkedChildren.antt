@@ -28,7 +28,14 @@ copied =
 -- the user ids 5, and the group ids 0
 abbrev pub user_five : Ids
 user_five =
-    record { real_user = 5; effective_user = 5; saved_user = 5; real_group = 0; effective_group = 0; saved_group = 0 }
+    record {
+      real_user = 5;
+      effective_user = 5;
+      saved_user = 5;
+      real_group = 0;
+      effective_group = 0;
+      saved_group = 0;
+    }
 
 -- page 0 with 7 in byte 0
 abbrev pub page_with_seven : Memory
@@ -44,10 +51,17 @@ CopiedState =
     (with_one_action 10 (Catch 50 (record { 0 = 0 }))
     (with_mask 1024
     (with_ids user_five
-    (with_frames (record { registers = record { point = 4; ret = pos 0; slots = pos 0 ∷ pos 1 ∷ replicate 6 (pos 0) }; mask = 0 } ∷ [])
+    (with_frames
+    (record {
+      registers =
+          record { point = 4; ret = pos 0; slots = pos 0 ∷ pos 1 ∷ replicate 6 (pos 0) };
+      mask = 0;
+    }
+    ∷ [])
     (standing 3 52 (pos 0) page_with_seven))))))))
 
--- the children of a process that ends, running or ended, are children of process 1, which waits for them
+-- the children of a process that ends, running or ended, are children of process 1, which waits for
+-- them
 abbrev pub orphans : List Step
 orphans =
     calls 1 (fork 2)
@@ -63,13 +77,15 @@ orphans =
 
 abbrev pub OrphansAnswers : Type 0
 OrphansAnswers =
-    answers_of (boot_state 64 1) [] orphans ≡ ok 2 ∷ ok 3 ∷ ok 4 ∷ Ended ∷ error 10 ∷ Ended ∷ ok 1 ∷ ok 0 ∷ ok 4 ∷ []
+    answers_of (boot_state 64 1) [] orphans
+    ≡ ok 2 ∷ ok 3 ∷ ok 4 ∷ Ended ∷ error 10 ∷ Ended ∷ ok 1 ∷ ok 0 ∷ ok 4 ∷ []
 
 -- the status that was waited for is in slot 0
 abbrev pub OrphansState : Type 0
 OrphansState =
     let S : State = state_after (boot_state 64 1) orphans in
-    (S.procs 1 ≡ Some (with_slots (pos 7 ∷ replicate 7 (pos 0)) (standing 1 4 (pos 4) no_memory))) × (S.procs 4 ≡ None)
+    (S.procs 1 ≡ Some (with_slots (pos 7 ∷ replicate 7 (pos 0)) (standing 1 4 (pos 4) no_memory)))
+    × (S.procs 4 ≡ None)
 
 -- a child that a signal ended: the status says so, and the parent gets SIGCHLD; there is no waiting
 -- for a number of no child
@@ -94,9 +110,13 @@ KilledChildAnswers =
 abbrev pub KilledChildState : Type 0
 KilledChildState =
     (state_after (boot_state 64 2) killed_child).procs 2
-    ≡ Some (with_one_pending 17 (with_mask 131072 (with_slots (pos 271 ∷ replicate 7 (pos 0)) (standing 2 8 (pos 3) no_memory))))
+    ≡ Some
+    (with_one_pending 17
+    (with_mask 131072
+    (with_slots (pos 271 ∷ replicate 7 (pos 0)) (standing 2 8 (pos 3) no_memory))))
 
--- a child whose end is ignored is there until it is waited for, and SIGCHLD is pending until it is delivered
+-- a child whose end is ignored is there until it is waited for, and SIGCHLD is pending until it is
+-- delivered
 abbrev pub ignored_child : List Step
 ignored_child =
     calls 2 (Sigaction (pos 17) Ignore)
@@ -106,12 +126,16 @@ ignored_child =
     ∷ []
 
 abbrev pub IgnoredChildAnswers : Type 0
-IgnoredChildAnswers = answers_of (boot_state 64 2) [] ignored_child ≡ ok 0 ∷ ok 3 ∷ Ended ∷ ok 3 ∷ []
+IgnoredChildAnswers =
+    answers_of (boot_state 64 2) [] ignored_child ≡ ok 0 ∷ ok 3 ∷ Ended ∷ ok 3 ∷ []
 
 abbrev pub IgnoredChildState : Type 0
 IgnoredChildState =
     (state_after (boot_state 64 2) ignored_child).procs 2
-    ≡ Some (with_one_pending 17 (with_one_action 17 Ignore (with_slots (pos 4 ∷ replicate 7 (pos 0)) (standing 2 3 (pos 3) no_memory))))
+    ≡ Some
+    (with_one_pending 17
+    (with_one_action 17 Ignore
+    (with_slots (pos 4 ∷ replicate 7 (pos 0)) (standing 2 3 (pos 3) no_memory))))
 
 -- what is left of a process that has ended: its parent, its ids and its status
 abbrev pub left_over : List Step
@@ -129,15 +153,18 @@ left_over =
     ∷ []
 
 abbrev pub LeftOverState : Type 0
-LeftOverState = (state_after (boot_state 64 2) left_over).procs 2 ≡ Some (with_ids user_five (exited 6))
+LeftOverState =
+    (state_after (boot_state 64 2) left_over).procs 2 ≡ Some (with_ids user_five (exited 6))
 
 -- a signal from outside ends the only member of a transaction, which commits by that
 abbrev pub killed_commit : List Step
 killed_commit =
-    calls 2 SysXbegin ∷ calls 2 (Map (pos 0)) ∷ calls 3 (kill 2 15) ∷ delivery 2 15 ∷ calls 1 (Waitpid (pos 2) false) ∷ []
+    calls 2 SysXbegin ∷ calls 2 (Map (pos 0)) ∷ calls 3 (kill 2 15) ∷ delivery 2 15
+    ∷ calls 1 (Waitpid (pos 2) false) ∷ []
 
 abbrev pub KilledCommitAnswers : Type 0
-KilledCommitAnswers = answers_of (boot_state 64 3) [] killed_commit ≡ ok 0 ∷ ok 0 ∷ ok 0 ∷ committed ∷ ok 2 ∷ []
+KilledCommitAnswers =
+    answers_of (boot_state 64 3) [] killed_commit ≡ ok 0 ∷ ok 0 ∷ ok 0 ∷ committed ∷ ok 2 ∷ []
 
 abbrev pub KilledCommitState : Type 0
 KilledCommitState =

@@ -22,7 +22,8 @@ lowest_first =
     ∷ []
 
 abbrev pub LowestFirstAnswers : Type 0
-LowestFirstAnswers = answers_of (boot_state 64 1) [] lowest_first ≡ ok 0 ∷ ok 2 ∷ ok 3 ∷ ok 0 ∷ ok 0 ∷ ok 0 ∷ []
+LowestFirstAnswers =
+    answers_of (boot_state 64 1) [] lowest_first ≡ ok 0 ∷ ok 2 ∷ ok 3 ∷ ok 0 ∷ ok 0 ∷ ok 0 ∷ []
 
 -- the slots say which descriptors they are, the read side first
 abbrev pub LowestFirstState : Type 0
@@ -30,7 +31,8 @@ LowestFirstState =
     let S : State = state_after (boot_state 64 1) lowest_first in
     (S.procs 1
     ≡ Some (with_slots (pos 0 ∷ pos 2 ∷ replicate 6 (pos 0))
-    (with_open (Some 2 ∷ Some 1 ∷ Some 3 ∷ Some 1 ∷ replicate 12 None) (standing 1 6 (pos 0) no_memory))))
+    (with_open (Some 2 ∷ Some 1 ∷ Some 3 ∷ Some 1 ∷ replicate 12 None)
+    (standing 1 6 (pos 0) no_memory))))
     × (S.descs 0 ≡ None)
     × (S.descs 1 ≡ described 0 WriteSide false)
     × (S.descs 2 ≡ described 1 ReadSide false)
@@ -94,7 +96,8 @@ closed_by_exit =
 
 abbrev pub ClosedByExitAnswers : Type 0
 ClosedByExitAnswers =
-    answers_of (boot_state 64 1) [] closed_by_exit ≡ ok 0 ∷ ok 0 ∷ ok 2 ∷ ok 0 ∷ ok 3 ∷ Ended ∷ ok 2 ∷ ok 1 ∷ ok 0 ∷ []
+    answers_of (boot_state 64 1) [] closed_by_exit
+    ≡ ok 0 ∷ ok 0 ∷ ok 2 ∷ ok 0 ∷ ok 3 ∷ Ended ∷ ok 2 ∷ ok 1 ∷ ok 0 ∷ []
 
 abbrev pub ClosedByExitState : Type 0
 ClosedByExitState =
@@ -117,10 +120,12 @@ bytes_lost =
 
 abbrev pub BytesLostAnswers : Type 0
 BytesLostAnswers =
-    answers_of (boot_state 64 2) [] bytes_lost ≡ ok 0 ∷ ok 0 ∷ ok 3 ∷ ok 3 ∷ ok 0 ∷ ok 0 ∷ Ended ∷ ok 0 ∷ No Wait ∷ []
+    answers_of (boot_state 64 2) [] bytes_lost
+    ≡ ok 0 ∷ ok 0 ∷ ok 3 ∷ ok 3 ∷ ok 0 ∷ ok 0 ∷ Ended ∷ ok 0 ∷ No Wait ∷ []
 
--- a read wants an open read side, a good count, a good range that may be written, and bytes; a write wants a write side
--- and a range that may be read. Each is tested in this order, and no byte wants no range
+-- a read wants an open read side, a good count, a good range that may be written, and bytes; a
+-- write wants a write side and a range that may be read. Each is tested in this order, and no byte
+-- wants no range
 abbrev pub wrong_transfers : List Step
 wrong_transfers =
     calls 1 (Map (pos 0))
@@ -183,7 +188,8 @@ little_room =
 
 abbrev pub LittleRoomAnswers : Type 0
 LittleRoomAnswers =
-    answers_of (boot_state 64 1) [] little_room ≡ replicate 9 (ok 0) ++ ok 500 ∷ No Wait ∷ ok 12 ∷ ok 512 ∷ []
+    answers_of (boot_state 64 1) [] little_room
+    ≡ replicate 9 (ok 0) ++ ok 500 ∷ No Wait ∷ ok 12 ∷ ok 512 ∷ []
 
 -- descriptors are 0 to 15, and open
 abbrev pub wrong_descriptors : List Step

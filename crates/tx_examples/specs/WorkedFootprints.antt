@@ -9,10 +9,12 @@ use Rattle.tx_model.specs.State.{boot_state}
 use Rattle.tx_model.specs.Schedules.{answers_of}
 use Rattle.tx_examples.specs.WorkedSteps.{calls, delivery, fork, pipe, kill, sigqueue, block, ok, error, committed, busy_with}
 
--- processes 1, 2 and 3 have one page and the two sides of a pipe; process 3 has closed its write side
+-- processes 1, 2 and 3 have one page and the two sides of a pipe; process 3 has closed its write
+-- side
 abbrev pub shared_pipe : List Step
 shared_pipe =
-    calls 1 (Map (pos 0)) ∷ calls 1 (pipe 0 0 1) ∷ calls 1 (fork 2) ∷ calls 1 (fork 3) ∷ calls 3 (Close (pos 1)) ∷ []
+    calls 1 (Map (pos 0)) ∷ calls 1 (pipe 0 0 1) ∷ calls 1 (fork 2) ∷ calls 1 (fork 3)
+    ∷ calls 3 (Close (pos 1)) ∷ []
 
 -- a transaction has changed the flag of the read side: what names that description is refused, also
 -- a dup2 with a wrong descriptor and a read of no byte
@@ -136,7 +138,8 @@ same_descriptor =
 
 abbrev pub SameDescriptorAnswers : Type 0
 SameDescriptorAnswers =
-    answers_of (boot_state 64 1) [] same_descriptor ≡ ok 0 ∷ ok 0 ∷ ok 2 ∷ ok 0 ∷ ok 0 ∷ ok 1 ∷ busy_with 2 ∷ []
+    answers_of (boot_state 64 1) [] same_descriptor
+    ≡ ok 0 ∷ ok 0 ∷ ok 2 ∷ ok 0 ∷ ok 0 ∷ ok 1 ∷ busy_with 2 ∷ []
 
 -- a transaction has read from the pipe, be it no byte: a write is refused, and a close of the write
 -- side
@@ -155,7 +158,8 @@ ReadPipeAnswers =
     answers_of (boot_state 64 1) [] read_pipe
     ≡ ok 0 ∷ ok 0 ∷ ok 2 ∷ ok 3 ∷ ok 0 ∷ ok 0 ∷ ok 0 ∷ busy_with 2 ∷ busy_with 2 ∷ ok 2 ∷ []
 
--- a transaction has given up the numbers of a child, a pipe and two descriptions: none of them may be chosen by others
+-- a transaction has given up the numbers of a child, a pipe and two descriptions: none of them may
+-- be chosen by others
 abbrev pub chosen_numbers : List Step
 chosen_numbers =
     calls 2 SysXbegin
@@ -209,7 +213,8 @@ asked_for =
 abbrev pub AskedForAnswers : Type 0
 AskedForAnswers =
     answers_of (boot_state 64 3) [] asked_for
-    ≡ ok 0 ∷ error 10 ∷ busy_with 3 ∷ busy_with 3 ∷ busy_with 3 ∷ busy_with 3 ∷ error 22 ∷ Aborted 201 ∷ ok 0 ∷ []
+    ≡ ok 0 ∷ error 10 ∷ busy_with 3 ∷ busy_with 3 ∷ busy_with 3 ∷ busy_with 3 ∷ error 22
+    ∷ Aborted 201 ∷ ok 0 ∷ []
 
 -- a member that is no starter can't be signalled by other processes, and its starter can
 abbrev pub signalled_member : List Step
@@ -265,7 +270,8 @@ told_at_commit =
 abbrev pub ToldAtCommitAnswers : Type 0
 ToldAtCommitAnswers =
     answers_of (boot_state 64 3) [] told_at_commit
-    ≡ ok 4 ∷ ok 0 ∷ ok 0 ∷ error 10 ∷ busy_with 3 ∷ ok 5 ∷ Ended ∷ busy_with 3 ∷ committed ∷ committed ∷ []
+    ≡ ok 4 ∷ ok 0 ∷ ok 0 ∷ error 10 ∷ busy_with 3 ∷ ok 5 ∷ Ended ∷ busy_with 3 ∷ committed
+    ∷ committed ∷ []
 
 -- a child has begun a transaction: a delivery that ends its parent is refused, and one that does
 -- not is made; a blocked signal is not delivered anyway
@@ -287,7 +293,8 @@ fatal_delivery =
 abbrev pub FatalDeliveryAnswers : Type 0
 FatalDeliveryAnswers =
     answers_of (boot_state 64 2) [] fatal_delivery
-    ≡ ok 3 ∷ ok 0 ∷ ok 0 ∷ ok 0 ∷ ok 0 ∷ ok 3 ∷ busy_with 3 ∷ ok 0 ∷ No NotDeliverable ∷ committed ∷ Ended ∷ []
+    ≡ ok 3 ∷ ok 0 ∷ ok 0 ∷ ok 0 ∷ ok 0 ∷ ok 3 ∷ busy_with 3 ∷ ok 0 ∷ No NotDeliverable ∷ committed
+    ∷ Ended ∷ []
 
 -- a deferred delivery names nothing
 abbrev pub deferred_delivery : List Step

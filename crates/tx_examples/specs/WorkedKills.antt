@@ -49,10 +49,12 @@ ended_then_doomed =
 
 abbrev pub EndedThenDoomedAnswers : Type 0
 EndedThenDoomedAnswers =
-    answers_of (boot_state 64 3) [] ended_then_doomed ≡ ok 0 ∷ ok 7 ∷ Ended ∷ ok 0 ∷ No Doomed ∷ Aborted 203 ∷ Ended ∷ []
+    answers_of (boot_state 64 3) [] ended_then_doomed
+    ≡ ok 0 ∷ ok 7 ∷ Ended ∷ ok 0 ∷ No Doomed ∷ Aborted 203 ∷ Ended ∷ []
 
 abbrev pub EndedThenDoomedState : Type 0
-EndedThenDoomedState = (state_after (boot_state 64 3) ended_then_doomed).procs 2 ≡ Some (killed_by 9)
+EndedThenDoomedState =
+    (state_after (boot_state 64 3) ended_then_doomed).procs 2 ≡ Some (killed_by 9)
 
 -- a member's SIGKILL to its starter dooms nothing: the starter ends inside
 abbrev pub killed_inside : List Step
@@ -70,7 +72,8 @@ member_kills = killed_inside ++ calls 7 SysXend ∷ []
 
 abbrev pub MemberKillsAnswers : Type 0
 MemberKillsAnswers =
-    answers_of (boot_state 64 2) [] member_kills ≡ ok 0 ∷ ok 7 ∷ ok 0 ∷ No KillPending ∷ ok 7 ∷ Ended ∷ committed ∷ []
+    answers_of (boot_state 64 2) [] member_kills
+    ≡ ok 0 ∷ ok 7 ∷ ok 0 ∷ No KillPending ∷ ok 7 ∷ Ended ∷ committed ∷ []
 
 abbrev pub MemberKillsState : Type 0
 MemberKillsState =
@@ -85,7 +88,8 @@ kill_undone = killed_inside ++ calls 7 SysXabort ∷ []
 
 abbrev pub KillUndoneAnswers : Type 0
 KillUndoneAnswers =
-    answers_of (boot_state 64 2) [] kill_undone ≡ ok 0 ∷ ok 7 ∷ ok 0 ∷ No KillPending ∷ ok 7 ∷ Ended ∷ Aborted 201 ∷ []
+    answers_of (boot_state 64 2) [] kill_undone
+    ≡ ok 0 ∷ ok 7 ∷ ok 0 ∷ No KillPending ∷ ok 7 ∷ Ended ∷ Aborted 201 ∷ []
 
 abbrev pub KillUndoneState : Type 0
 KillUndoneState =
@@ -108,7 +112,8 @@ deferred =
 
 abbrev pub DeferredAnswers : Type 0
 DeferredAnswers =
-    answers_of (boot_state 256 3) [] deferred ≡ ok 0 ∷ ok 0 ∷ No Deferred ∷ ok 256 ∷ ok 0 ∷ Ended ∷ committed ∷ []
+    answers_of (boot_state 256 3) [] deferred
+    ≡ ok 0 ∷ ok 0 ∷ No Deferred ∷ ok 256 ∷ ok 0 ∷ Ended ∷ committed ∷ []
 
 abbrev pub DeferredState : Type 0
 DeferredState =

@@ -106,4 +106,5 @@ two_pages =
     ∷ replicate 14 None
 
 abbrev pub ProtectedState : Type 0
-ProtectedState = (state_after (boot_state 64 1) protected).procs 1 ≡ Some (standing 1 13 (pos 0) two_pages)
+ProtectedState =
+    (state_after (boot_state 64 1) protected).procs 1 ≡ Some (standing 1 13 (pos 0) two_pages)

@@ -95,32 +95,41 @@ LookedAtMoved =
 -- moment
 abbrev pub child_ends : List Step
 child_ends =
-    calls 2 SysXbegin ∷ calls 2 (fork 4) ∷ calls 4 Sigpending ∷ calls 4 (Exit (pos 0)) ∷ calls 2 SysXend ∷ []
+    calls 2 SysXbegin ∷ calls 2 (fork 4) ∷ calls 4 Sigpending ∷ calls 4 (Exit (pos 0))
+    ∷ calls 2 SysXend ∷ []
 
 abbrev pub child_looks : List Accepted
 child_looks =
-    answered (calls 4 Sigpending) (ok 0) ∷ answered (calls 2 (fork 4)) (ok 4) ∷ answered (calls 2 SysXbegin) (ok 0) ∷ []
+    answered (calls 4 Sigpending) (ok 0) ∷ answered (calls 2 (fork 4)) (ok 4)
+    ∷ answered (calls 2 SysXbegin) (ok 0) ∷ []
 
 abbrev pub ChildEndsHistory : Type 0
 ChildEndsHistory =
-    history_of (boot_state 256 3) [] child_ends ≡ commit_of_two ∷ answered (calls 4 (Exit (pos 0))) Ended ∷ child_looks
+    history_of (boot_state 256 3) [] child_ends
+    ≡ commit_of_two ∷ answered (calls 4 (Exit (pos 0))) Ended ∷ child_looks
 
 abbrev pub ChildEndsTells : Type 0
 ChildEndsTells =
-    is_one_moment (boot_state 256 3) 2 commit_of_two (answered (calls 4 (Exit (pos 0))) Ended ∷ child_looks) ≡ false
+    is_one_moment (boot_state 256 3) 2 commit_of_two
+    (answered (calls 4 (Exit (pos 0))) Ended ∷ child_looks)
+    ≡ false
 
 -- the child ends its part and not itself: nothing shows it
 abbrev pub child_parks : List Step
 child_parks =
-    calls 2 SysXbegin ∷ calls 2 (fork 4) ∷ calls 4 Sigpending ∷ calls 4 SysXend ∷ calls 2 SysXend ∷ []
+    calls 2 SysXbegin ∷ calls 2 (fork 4) ∷ calls 4 Sigpending ∷ calls 4 SysXend ∷ calls 2 SysXend
+    ∷ []
 
 abbrev pub ChildParksHistory : Type 0
 ChildParksHistory =
-    history_of (boot_state 256 3) [] child_parks ≡ commit_of_two ∷ answered (calls 4 SysXend) (ok 0) ∷ child_looks
+    history_of (boot_state 256 3) [] child_parks
+    ≡ commit_of_two ∷ answered (calls 4 SysXend) (ok 0) ∷ child_looks
 
 abbrev pub ChildParksTellsNothing : Type 0
 ChildParksTellsNothing =
-    is_one_moment (boot_state 256 3) 2 commit_of_two (answered (calls 4 SysXend) (ok 0) ∷ child_looks) ≡ true
+    is_one_moment (boot_state 256 3) 2 commit_of_two
+    (answered (calls 4 SysXend) (ok 0) ∷ child_looks)
+    ≡ true
 
 -- process 2 began its transaction, and made one step in it
 abbrev pub one_step : Step → Reply → List Accepted
@@ -129,15 +138,22 @@ one_step step reply = answered step reply ∷ answered (calls 2 SysXbegin) (ok 0
 -- the starter looks at what is pending, or at an action, though of no signal
 abbrev pub StarterLooks : Type 0
 StarterLooks =
-    (is_one_moment (boot_state 256 3) 2 commit_of_two (one_step (calls 2 Sigpending) (ok 0)) ≡ false)
-    × (is_one_moment (boot_state 256 3) 2 commit_of_two (one_step (calls 2 (Sigaction (pos 4) Ignore)) (error 22)) ≡ false)
+    (is_one_moment (boot_state 256 3) 2 commit_of_two (one_step (calls 2 Sigpending) (ok 0))
+    ≡ false)
+    × (is_one_moment (boot_state 256 3) 2 commit_of_two
+    (one_step (calls 2 (Sigaction (pos 4) Ignore)) (error 22))
+    ≡ false)
 
--- it asks whether it is there itself, and whether another process is; or sends an unknown signal, which is no signal
+-- it asks whether it is there itself, and whether another process is; or sends an unknown signal,
+-- which is no signal
 abbrev pub StarterSends : Type 0
 StarterSends =
-    (is_one_moment (boot_state 256 3) 2 commit_of_two (one_step (calls 2 (kill 2 0)) (ok 0)) ≡ false)
-    × (is_one_moment (boot_state 256 3) 2 commit_of_two (one_step (calls 2 (kill 3 10)) (ok 0)) ≡ true)
-    × (is_one_moment (boot_state 256 3) 2 commit_of_two (one_step (calls 2 (kill 2 99)) (error 22)) ≡ true)
+    (is_one_moment (boot_state 256 3) 2 commit_of_two (one_step (calls 2 (kill 2 0)) (ok 0))
+    ≡ false)
+    × (is_one_moment (boot_state 256 3) 2 commit_of_two (one_step (calls 2 (kill 3 10)) (ok 0))
+    ≡ true)
+    × (is_one_moment (boot_state 256 3) 2 commit_of_two (one_step (calls 2 (kill 2 99)) (error 22))
+    ≡ true)
 
 -- what the starter does before it begins, and what others do, shows nothing; the step that commits
 -- may

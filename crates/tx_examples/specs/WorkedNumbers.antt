@@ -11,7 +11,8 @@ use Rattle.tx_model.specs.Schedules.{answers_of}
 use Rattle.tx_model.specs.FreeNumbers.{Free, free_numbers}
 use Rattle.tx_examples.specs.WorkedSteps.{calls, kernel, fork, pipe, ok, error, busy_with, view_after, state_after, standing, with_slots, with_open, described}
 
--- numbers that are refused, and one that is no error of a number: refused steps leave the process where it is
+-- numbers that are refused, and one that is no error of a number: refused steps leave the process
+-- where it is
 abbrev pub refused_numbers : List Step
 refused_numbers =
     calls 1 (fork 65)
@@ -28,9 +29,12 @@ RefusedNumbersAnswers =
     ≡ No BadNumber ∷ No NumberTaken ∷ No NoProcess ∷ No NoTransaction ∷ error 22 ∷ No BadNumber ∷ []
 
 abbrev pub RefusedNumbersState : Type 0
-RefusedNumbersState = (state_after (boot_state 64 1) refused_numbers).procs 1 ≡ Some (standing 1 1 (negsuc 21) no_memory)
+RefusedNumbersState =
+    (state_after (boot_state 64 1) refused_numbers).procs 1
+    ≡ Some (standing 1 1 (negsuc 21) no_memory)
 
--- processes are numbered from 1, pipes 0 to 31, descriptions 0 to 63. A number out of range comes before one that is taken
+-- processes are numbered from 1, pipes 0 to 31, descriptions 0 to 63. A number out of range comes
+-- before one that is taken
 abbrev pub number_limits : List Step
 number_limits =
     calls 1 (fork 0)
@@ -67,11 +71,13 @@ NumberLimitsAnswers =
 -- a member makes a pipe, whose numbers another process wants, and closes both ends
 abbrev pub closed_inside : List Step
 closed_inside =
-    calls 2 SysXbegin ∷ calls 2 (pipe 4 8 9) ∷ calls 3 (pipe 4 1 2) ∷ calls 2 (Close (pos 0)) ∷ calls 2 (Close (pos 1)) ∷ []
+    calls 2 SysXbegin ∷ calls 2 (pipe 4 8 9) ∷ calls 3 (pipe 4 1 2) ∷ calls 2 (Close (pos 0))
+    ∷ calls 2 (Close (pos 1)) ∷ []
 
 -- its numbers are in use, then free but reserved, and then free
 abbrev pub reserved_numbers : List Step
-reserved_numbers = closed_inside ++ calls 3 (pipe 4 1 2) ∷ calls 2 SysXabort ∷ calls 3 (pipe 4 1 2) ∷ []
+reserved_numbers =
+    closed_inside ++ calls 3 (pipe 4 1 2) ∷ calls 2 SysXabort ∷ calls 3 (pipe 4 1 2) ∷ []
 
 abbrev pub ReservedNumbersAnswers : Type 0
 ReservedNumbersAnswers =
@@ -84,7 +90,9 @@ ReservedNumbersState =
     (S.procs 1 ≡ Some (booted_process 1))
     × (S.procs 2 ≡ Some (standing 2 1 (negsuc 200) no_memory))
     × (S.procs 3
-    ≡ Some (with_slots (pos 0 ∷ pos 1 ∷ replicate 6 (pos 0)) (with_open (Some 1 ∷ Some 2 ∷ replicate 14 None) (standing 3 1 (pos 0) no_memory))))
+    ≡ Some
+    (with_slots (pos 0 ∷ pos 1 ∷ replicate 6 (pos 0))
+    (with_open (Some 1 ∷ Some 2 ∷ replicate 14 None) (standing 3 1 (pos 0) no_memory))))
     × (S.descs 1 ≡ described 4 ReadSide false)
     × (S.descs 2 ≡ described 4 WriteSide false)
     × (S.descs 8 ≡ None)
@@ -114,17 +122,21 @@ given_up_inside =
 
 abbrev pub GivenUpInsideAnswers : Type 0
 GivenUpInsideAnswers =
-    answers_of (boot_state 64 3) [] given_up_inside ≡ ok 0 ∷ ok 0 ∷ ok 0 ∷ ok 0 ∷ ok 4 ∷ Ended ∷ ok 4 ∷ ok 0 ∷ []
+    answers_of (boot_state 64 3) [] given_up_inside
+    ≡ ok 0 ∷ ok 0 ∷ ok 0 ∷ ok 0 ∷ ok 4 ∷ Ended ∷ ok 4 ∷ ok 0 ∷ []
 
 abbrev pub FreeInside : Type 0
 FreeInside =
     let V : View = view_after (boot_state 64 3) given_up_inside in
-    (free_numbers V 1 ≡ free 5 2 2 5) × (free_numbers V 2 ≡ free 4 0 0 1) × (free_numbers V 3 ≡ free 5 2 2 5)
+    (free_numbers V 1 ≡ free 5 2 2 5)
+    × (free_numbers V 2 ≡ free 4 0 0 1)
+    × (free_numbers V 3 ≡ free 5 2 2 5)
 
 -- where every process is there, no number of one is free
 abbrev pub NoneFree : Type 0
 NoneFree =
-    free_numbers (view_after (boot_state 64 64) []) 1 ≡ record { proc = None; pipe = Some 0; descs = Some (0, 1) }
+    free_numbers (view_after (boot_state 64 64) []) 1
+    ≡ record { proc = None; pipe = Some 0; descs = Some (0, 1) }
 
 -- process p makes as many pipes, from this number on
 abbrev pub pipes_from : ℕ → ℕ → ℕ → List Step
@@ -140,8 +152,11 @@ abbrev pub all_pipes_but_one_side : List Step
 all_pipes_but_one_side = all_pipes ++ calls 1 (Close (pos 0)) ∷ []
 
 abbrev pub NoPipeFree : Type 0
-NoPipeFree = free_numbers (view_after (boot_state 64 4) all_pipes) 1 ≡ record { proc = Some 5; pipe = None; descs = None }
+NoPipeFree =
+    free_numbers (view_after (boot_state 64 4) all_pipes) 1
+    ≡ record { proc = Some 5; pipe = None; descs = None }
 
 abbrev pub OneSideFree : Type 0
 OneSideFree =
-    free_numbers (view_after (boot_state 64 4) all_pipes_but_one_side) 1 ≡ record { proc = Some 5; pipe = None; descs = None }
+    free_numbers (view_after (boot_state 64 4) all_pipes_but_one_side) 1
+    ≡ record { proc = Some 5; pipe = None; descs = None }

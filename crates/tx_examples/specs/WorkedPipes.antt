@@ -9,7 +9,8 @@ use Rattle.tx_model.specs.State.{ReadSide, WriteSide, State, boot_state}
 use Rattle.tx_model.specs.Schedules.{answers_of}
 use Rattle.tx_examples.specs.WorkedSteps.{calls, store, fork, pipe, block, ok, error, committed, busy_with, state_after, standing, with_slots, with_open, with_mask, with_one_pending, described}
 
--- the last writer of a pipe closes it inside: whether a read of process 1 waits or is at the end is not known yet
+-- the last writer of a pipe closes it inside: whether a read of process 1 waits or is at the end is
+-- not known yet
 abbrev pub last_writer : List Step
 last_writer =
     calls 1 (Map (pos 0))
@@ -46,7 +47,8 @@ writer_closes = writer_back ++ calls 2 (Close (pos 1)) ∷ calls 1 (Read (pos 0)
 abbrev pub WriterClosesAnswers : Type 0
 WriterClosesAnswers =
     answers_of (boot_state 64 1) [] writer_closes
-    ≡ ok 0 ∷ ok 0 ∷ ok 2 ∷ ok 0 ∷ ok 0 ∷ ok 0 ∷ busy_with 2 ∷ Aborted 201 ∷ No Wait ∷ ok 0 ∷ ok 0 ∷ []
+    ≡ ok 0 ∷ ok 0 ∷ ok 2 ∷ ok 0 ∷ ok 0 ∷ ok 0 ∷ busy_with 2 ∷ Aborted 201 ∷ No Wait ∷ ok 0 ∷ ok 0
+    ∷ []
 
 -- a child that was forked inside changes the flag of a description that process 1 has too
 abbrev pub flag_undone : List Step
@@ -63,7 +65,8 @@ flag_undone =
 
 abbrev pub FlagUndoneAnswers : Type 0
 FlagUndoneAnswers =
-    answers_of (boot_state 64 1) [] flag_undone ≡ ok 0 ∷ ok 2 ∷ ok 0 ∷ ok 7 ∷ ok 0 ∷ busy_with 2 ∷ Aborted 201 ∷ ok 0 ∷ []
+    answers_of (boot_state 64 1) [] flag_undone
+    ≡ ok 0 ∷ ok 2 ∷ ok 0 ∷ ok 7 ∷ ok 0 ∷ busy_with 2 ∷ Aborted 201 ∷ ok 0 ∷ []
 
 -- the slots that say which descriptors the pipe has
 abbrev pub zero_and_one : List ℤ
@@ -72,9 +75,15 @@ zero_and_one = pos 0 ∷ pos 1 ∷ replicate 6 (pos 0)
 abbrev pub FlagUndoneState : Type 0
 FlagUndoneState =
     let S : State = state_after (boot_state 64 1) flag_undone in
-    (S.procs 1 ≡ Some (with_slots zero_and_one (with_open (None ∷ Some 6 ∷ replicate 14 None) (standing 1 3 (pos 0) no_memory))))
+    (S.procs 1
+    ≡ Some
+    (with_slots zero_and_one
+    (with_open (None ∷ Some 6 ∷ replicate 14 None) (standing 1 3 (pos 0) no_memory))))
     × (S.procs 2
-    ≡ Some (with_slots zero_and_one (with_open (Some 5 ∷ Some 6 ∷ replicate 14 None) (standing 2 3 (negsuc 200) no_memory))))
+    ≡ Some
+    (with_slots zero_and_one
+    (with_open (Some 5 ∷ Some 6 ∷ replicate 14 None)
+    (standing 2 3 (negsuc 200) no_memory))))
     × (S.procs 7 ≡ None)
     × (S.descs 5 ≡ described 3 ReadSide false)
     × (S.descs 6 ≡ described 3 WriteSide false)
@@ -206,7 +215,8 @@ MoreNamesState =
     let S : State = state_after (boot_state 64 1) more_names in
     (S.procs 1
     ≡ Some (with_slots zero_and_one
-    (with_open (Some 0 ∷ None ∷ None ∷ None ∷ None ∷ Some 0 ∷ replicate 10 None) (standing 1 11 (pos 5) no_memory))))
+    (with_open (Some 0 ∷ None ∷ None ∷ None ∷ None ∷ Some 0 ∷ replicate 10 None)
+    (standing 1 11 (pos 5) no_memory))))
     × (S.descs 0 ≡ described 0 ReadSide false)
     × (S.descs 1 ≡ None)
     × (S.pipes 0 ≡ Some [])

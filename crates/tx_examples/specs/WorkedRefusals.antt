@@ -1,4 +1,5 @@
--- Schedules of refused steps, worked out to the end: of several reasons to refuse a step, which one is given. Own rules.
+-- Schedules of refused steps, worked out to the end: of several reasons to refuse a step, which one
+-- is given. Own rules.
 use Rattle.std.specs.Prelude.{◌≡◌, true, false, List, [], ◌∷◌, ◌++◌, pos, replicate}
 use Rattle.tx_base.specs.declared.steps.Call.TheVariants.{Exit, Waitpid, Getpid, SysXbegin, SysXbeginDefer, SysXend, SysXabort}
 use Rattle.tx_base.specs.declared.steps.Refusal.TheVariants.{NoProcess, NotRunning, BadNumber, NumberTaken, Doomed, Parked, KillPending, Wait, NotDeliverable, FramesFull, NoTransaction, Deferred}
@@ -8,8 +9,8 @@ use Rattle.tx_model.specs.State.{boot_state}
 use Rattle.tx_model.specs.Schedules.{answers_of}
 use Rattle.tx_examples.specs.WorkedSteps.{calls, delivery, kernel, fork, kill, block, catch, caught_and_unblocked, ok, error, committed, busy_with}
 
--- an ended process is refused as ended before its numbers are looked at, and as none once it was waited for. The kernel's
--- abort wants a live transaction, and no process
+-- an ended process is refused as ended before its numbers are looked at, and as none once it was
+-- waited for. The kernel's abort wants a live transaction, and no process
 abbrev pub not_running : List Step
 not_running =
     calls 2 (Exit (pos 0))
@@ -39,8 +40,9 @@ NotRunningAnswers =
     ∷ No NoProcess
     ∷ []
 
--- in a doomed transaction: a member that ended is refused as ended, and a chosen number that is wrong or taken comes
--- before the doom, which comes before a part that has ended and a SIGKILL that is pending
+-- in a doomed transaction: a member that ended is refused as ended, and a chosen number that is
+-- wrong or taken comes before the doom, which comes before a part that has ended and a SIGKILL that
+-- is pending
 abbrev pub doom_in_turn : List Step
 doom_in_turn =
     calls 2 SysXbegin
@@ -78,8 +80,8 @@ DoomInTurnAnswers =
     ∷ No NotRunning
     ∷ []
 
--- a member whose part has ended: a chosen number that is wrong or taken comes first, and a SIGKILL that is pending after
--- that; it is not delivered either
+-- a member whose part has ended: a chosen number that is wrong or taken comes first, and a SIGKILL
+-- that is pending after that; it is not delivered either
 abbrev pub parked_in_turn : List Step
 parked_in_turn =
     calls 2 SysXbegin
@@ -97,8 +99,8 @@ ParkedInTurnAnswers =
     answers_of (boot_state 64 2) [] parked_in_turn
     ≡ ok 0 ∷ ok 7 ∷ ok 0 ∷ ok 0 ∷ No BadNumber ∷ No NumberTaken ∷ No Parked ∷ No Parked ∷ []
 
--- a process at which SIGKILL is pending: a chosen number that is wrong or taken comes first, and a transaction in the way
--- after that. In the way it is of the delivery of SIGKILL too
+-- a process at which SIGKILL is pending: a chosen number that is wrong or taken comes first, and a
+-- transaction in the way after that. In the way it is of the delivery of SIGKILL too
 abbrev pub kill_in_turn : List Step
 kill_in_turn =
     calls 3 (kill 2 9)
@@ -130,8 +132,8 @@ KillInTurnAnswers =
     ∷ Ended
     ∷ []
 
--- a transaction in the way comes after a chosen number that is wrong or taken, and before a wait and before a signal that
--- is not pending
+-- a transaction in the way comes after a chosen number that is wrong or taken, and before a wait
+-- and before a signal that is not pending
 abbrev pub busy_in_turn : List Step
 busy_in_turn =
     calls 2 (fork 4)
@@ -159,7 +161,8 @@ BusyInTurnAnswers =
     ∷ busy_with 3
     ∷ []
 
--- a transaction that defers deliveries: a signal that is not pending, or is blocked, comes before that
+-- a transaction that defers deliveries: a signal that is not pending, or is blocked, comes before
+-- that
 abbrev pub deferred_in_turn : List Step
 deferred_in_turn =
     calls 2 SysXbeginDefer
@@ -195,7 +198,8 @@ DeferredWithFramesAnswers =
     answers_of (boot_state 256 2) [] deferred_with_frames
     ≡ replicate 15 (ok 0) ++ No Deferred ∷ Aborted 201 ∷ No FramesFull ∷ []
 
--- a child that was forked inside is deferred like its starter, and not where the transaction defers nothing
+-- a child that was forked inside is deferred like its starter, and not where the transaction defers
+-- nothing
 abbrev pub deferred_child : List Step
 deferred_child =
     calls 2 SysXbeginDefer
@@ -210,4 +214,5 @@ deferred_child =
 
 abbrev pub DeferredChildAnswers : Type 0
 DeferredChildAnswers =
-    answers_of (boot_state 256 3) [] deferred_child ≡ ok 0 ∷ ok 0 ∷ ok 7 ∷ ok 8 ∷ ok 0 ∷ ok 0 ∷ No Deferred ∷ Ended ∷ []
+    answers_of (boot_state 256 3) [] deferred_child
+    ≡ ok 0 ∷ ok 0 ∷ ok 7 ∷ ok 8 ∷ ok 0 ∷ ok 0 ∷ No Deferred ∷ Ended ∷ []

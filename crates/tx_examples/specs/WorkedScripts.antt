@@ -26,18 +26,22 @@ abbrev pub JumpsAnswers : Type 0
 JumpsAnswers = answers_of (boot_state 64 1) [] jumps ≡ ok 0 ∷ ok 1 ∷ ok 1 ∷ ok 1 ∷ error 22 ∷ []
 
 abbrev pub JumpsState : Type 0
-JumpsState = (state_after (boot_state 64 1) jumps).procs 1 ≡ Some (standing 1 42 (negsuc 21) no_memory)
+JumpsState =
+    (state_after (boot_state 64 1) jumps).procs 1 ≡ Some (standing 1 42 (negsuc 21) no_memory)
 
 -- the last answer may be an error, and adding one at the last point leaves it
 abbrev pub last_point : List Step
 last_point =
-    calls 1 (Keep (pos 8)) ∷ calls 1 (Jump 65535 (IfRet (negsuc 21))) ∷ calls 1 Getpid ∷ calls 1 Getpid ∷ []
+    calls 1 (Keep (pos 8)) ∷ calls 1 (Jump 65535 (IfRet (negsuc 21))) ∷ calls 1 Getpid
+    ∷ calls 1 Getpid ∷ []
 
 abbrev pub LastPointAnswers : Type 0
-LastPointAnswers = answers_of (boot_state 64 1) [] last_point ≡ error 22 ∷ error 22 ∷ ok 1 ∷ ok 1 ∷ []
+LastPointAnswers =
+    answers_of (boot_state 64 1) [] last_point ≡ error 22 ∷ error 22 ∷ ok 1 ∷ ok 1 ∷ []
 
 abbrev pub LastPointState : Type 0
-LastPointState = (state_after (boot_state 64 1) last_point).procs 1 ≡ Some (standing 1 65535 (pos 1) no_memory)
+LastPointState =
+    (state_after (boot_state 64 1) last_point).procs 1 ≡ Some (standing 1 65535 (pos 1) no_memory)
 
 -- a slot keeps the last answer, which stays. Slots are 0 to 7
 abbrev pub keeps : List Step
@@ -53,14 +57,18 @@ keeps =
 
 abbrev pub KeepsAnswers : Type 0
 KeepsAnswers =
-    answers_of (boot_state 64 2) [] keeps ≡ ok 2 ∷ ok 2 ∷ error 22 ∷ error 22 ∷ error 22 ∷ ok 1 ∷ ok 1 ∷ []
+    answers_of (boot_state 64 2) [] keeps
+    ≡ ok 2 ∷ ok 2 ∷ error 22 ∷ error 22 ∷ error 22 ∷ ok 1 ∷ ok 1 ∷ []
 
 abbrev pub KeepsState : Type 0
 KeepsState =
     (state_after (boot_state 64 2) keeps).procs 2
-    ≡ Some (with_slots (negsuc 21 ∷ pos 0 ∷ pos 0 ∷ pos 1 ∷ pos 0 ∷ pos 0 ∷ pos 0 ∷ pos 2 ∷ []) (standing 2 7 (pos 1) no_memory))
+    ≡ Some
+    (with_slots (negsuc 21 ∷ pos 0 ∷ pos 0 ∷ pos 1 ∷ pos 0 ∷ pos 0 ∷ pos 0 ∷ pos 2 ∷ [])
+    (standing 2 7 (pos 1) no_memory))
 
--- a process has its own number and that of its parent, which is 1 once the parent has ended; process 1 has none
+-- a process has its own number and that of its parent, which is 1 once the parent has ended;
+-- process 1 has none
 abbrev pub parents : List Step
 parents =
     calls 1 Getppid
@@ -84,8 +92,8 @@ ParentsAnswers =
 abbrev pub shown : List ℕ → Reply
 shown bytes = Out (record { items = bytes })
 
--- up to 64 bytes of memory are shown, also of a page that may not be written; no byte is no error at any address, and a
--- wrong count comes before a wrong address
+-- up to 64 bytes of memory are shown, also of a page that may not be written; no byte is no error
+-- at any address, and a wrong count comes before a wrong address
 abbrev pub console : List Step
 console =
     calls 1 (Map (pos 0))
@@ -117,7 +125,10 @@ ConsoleAnswers =
 
 -- the count is the answer that the process is left with
 abbrev pub shown_count : List Step
-shown_count = calls 1 (ConsoleWrite (pos 0) (pos 0)) ∷ calls 1 Getpid ∷ calls 1 (ConsoleWrite (pos 0) (pos 0)) ∷ []
+shown_count =
+    calls 1 (ConsoleWrite (pos 0) (pos 0)) ∷ calls 1 Getpid ∷ calls 1 (ConsoleWrite (pos 0) (pos 0))
+    ∷ []
 
 abbrev pub ShownCountState : Type 0
-ShownCountState = (state_after (boot_state 64 1) shown_count).procs 1 ≡ Some (standing 1 3 (pos 0) no_memory)
+ShownCountState =
+    (state_after (boot_state 64 1) shown_count).procs 1 ≡ Some (standing 1 3 (pos 0) no_memory)

@@ -1,4 +1,5 @@
--- Schedules of signals that are sent: which there are, and what they bring, worked out to the end. Own rules.
+-- Schedules of signals that are sent: which there are, and what they bring, worked out to the end.
+-- Own rules.
 use Rattle.std.specs.Prelude.{◌≡◌, ℕ, false, List, [], ◌∷◌, ◌++◌, pos, negsuc, Some, replicate}
 use Rattle.tx_base.specs.declared.errors.Errno.TheVariants.{NoSuchProcess}
 use Rattle.tx_base.specs.declared.steps.Call.TheVariants.{Exit, Waitpid, Sigqueue, Sigpending, Sigreturn, SysXbegin, SysXend}
@@ -14,26 +15,31 @@ abbrev pub to_itself : List ℕ → List Step
 to_itself [] = []
 to_itself (signo ∷ signos) = calls 2 (kill 2 signo) ∷ to_itself signos
 
--- every signal there is but SIGKILL, and the numbers between them; all that may be blocked is (18,446,744,073,709,551,615
--- is the set of 0 to 63, and 1,095,216,854,094 that of the signals but SIGKILL)
+-- every signal there is but SIGKILL, and the numbers between them; all that may be blocked is
+-- (18,446,744,073,709,551,615 is the set of 0 to 63, and 1,095,216,854,094 that of the signals but
+-- SIGKILL)
 abbrev pub each_signal : List Step
 each_signal =
     calls 2 (block 18446744073709551615)
-    ∷ to_itself (1 ∷ 2 ∷ 3 ∷ 6 ∷ 10 ∷ 12 ∷ 13 ∷ 14 ∷ 15 ∷ 17 ∷ 32 ∷ 33 ∷ 34 ∷ 35 ∷ 36 ∷ 37 ∷ 38 ∷ 39 ∷ [])
+    ∷ to_itself
+    (1 ∷ 2 ∷ 3 ∷ 6 ∷ 10 ∷ 12 ∷ 13 ∷ 14 ∷ 15 ∷ 17 ∷ 32 ∷ 33 ∷ 34 ∷ 35 ∷ 36 ∷ 37 ∷ 38 ∷ 39 ∷ [])
     ++ to_itself (4 ∷ 5 ∷ 7 ∷ 8 ∷ 11 ∷ 16 ∷ 18 ∷ 31 ∷ 40 ∷ 64 ∷ [])
     ++ calls 2 Sigpending
     ∷ []
 
 abbrev pub EachSignalAnswers : Type 0
 EachSignalAnswers =
-    answers_of (boot_state 64 2) [] each_signal ≡ replicate 19 (ok 0) ++ replicate 10 (error 22) ++ ok 1095216854094 ∷ []
+    answers_of (boot_state 64 2) [] each_signal
+    ≡ replicate 19 (ok 0) ++ replicate 10 (error 22) ++ ok 1095216854094 ∷ []
 
 -- 193,614 is the set of the standard signals but SIGKILL
 abbrev pub EachSignalState : Type 0
 EachSignalState =
     (state_after (boot_state 64 2) each_signal).procs 2
     ≡ Some (with_mask 1095216854094
-    (with_queue (entry 32 0 ∷ entry 33 0 ∷ entry 34 0 ∷ entry 35 0 ∷ entry 36 0 ∷ entry 37 0 ∷ entry 38 0 ∷ entry 39 0 ∷ [])
+    (with_queue
+    (entry 32 0 ∷ entry 33 0 ∷ entry 34 0 ∷ entry 35 0 ∷ entry 36 0 ∷ entry 37 0 ∷ entry 38 0
+    ∷ entry 39 0 ∷ [])
     (record (standing 2 30 (pos 1095216854094) no_memory) { pending = 193614 })))
 
 -- a realtime signal brings its value, which kill has not; a standard one brings 0
@@ -93,4 +99,5 @@ SendsInsideAnswers =
 
 abbrev pub SendsInsideState : Type 0
 SendsInsideState =
-    (state_after (boot_state 64 3) sends_inside).procs 3 ≡ Some (with_one_pending 10 (standing 3 0 (pos 0) no_memory))
+    (state_after (boot_state 64 3) sends_inside).procs 3
+    ≡ Some (with_one_pending 10 (standing 3 0 (pos 0) no_memory))

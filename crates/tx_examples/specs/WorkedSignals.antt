@@ -26,13 +26,16 @@ abbrev pub given_back : List Step
 given_back = taken_inside ++ calls 2 SysXabort ∷ []
 
 abbrev pub GivenBackAnswers : Type 0
-GivenBackAnswers = answers_of (boot_state 64 3) [] given_back ≡ ok 0 ∷ ok 0 ∷ ok 0 ∷ ok 0 ∷ Aborted 201 ∷ []
+GivenBackAnswers =
+    answers_of (boot_state 64 3) [] given_back ≡ ok 0 ∷ ok 0 ∷ ok 0 ∷ ok 0 ∷ Aborted 201 ∷ []
 
 abbrev pub GivenBackState : Type 0
 GivenBackState =
     let S : State = state_after (boot_state 64 3) given_back in
     (S.procs 1 ≡ Some (booted_process 1))
-    × (S.procs 2 ≡ Some (with_one_action 10 Ignore (with_one_pending 10 (standing 2 2 (negsuc 200) no_memory))))
+    × (S.procs 2
+    ≡ Some (with_one_action 10 Ignore
+    (with_one_pending 10 (standing 2 2 (negsuc 200) no_memory))))
     × (S.procs 3 ≡ Some (standing 3 1 (pos 0) no_memory))
 
 -- after the commit it is gone
@@ -40,7 +43,8 @@ abbrev pub taken_for_good : List Step
 taken_for_good = taken_inside ++ calls 2 SysXend ∷ []
 
 abbrev pub TakenForGoodAnswers : Type 0
-TakenForGoodAnswers = answers_of (boot_state 64 3) [] taken_for_good ≡ ok 0 ∷ ok 0 ∷ ok 0 ∷ ok 0 ∷ committed ∷ []
+TakenForGoodAnswers =
+    answers_of (boot_state 64 3) [] taken_for_good ≡ ok 0 ∷ ok 0 ∷ ok 0 ∷ ok 0 ∷ committed ∷ []
 
 abbrev pub TakenForGoodState : Type 0
 TakenForGoodState =
@@ -55,13 +59,16 @@ sent_twice_undone = taken_inside ++ calls 3 (kill 2 10) ∷ calls 2 SysXabort �
 
 abbrev pub SentTwiceUndoneAnswers : Type 0
 SentTwiceUndoneAnswers =
-    answers_of (boot_state 64 3) [] sent_twice_undone ≡ ok 0 ∷ ok 0 ∷ ok 0 ∷ ok 0 ∷ ok 0 ∷ Aborted 201 ∷ []
+    answers_of (boot_state 64 3) [] sent_twice_undone
+    ≡ ok 0 ∷ ok 0 ∷ ok 0 ∷ ok 0 ∷ ok 0 ∷ Aborted 201 ∷ []
 
 abbrev pub SentTwiceUndoneState : Type 0
 SentTwiceUndoneState =
     let S : State = state_after (boot_state 64 3) sent_twice_undone in
     (S.procs 1 ≡ Some (booted_process 1))
-    × (S.procs 2 ≡ Some (with_one_action 10 Ignore (with_one_pending 10 (standing 2 2 (negsuc 200) no_memory))))
+    × (S.procs 2
+    ≡ Some (with_one_action 10 Ignore
+    (with_one_pending 10 (standing 2 2 (negsuc 200) no_memory))))
     × (S.procs 3 ≡ Some (standing 3 2 (pos 0) no_memory))
 
 -- and after the commit too, since the second one was not delivered
@@ -69,13 +76,15 @@ abbrev pub sent_twice : List Step
 sent_twice = taken_inside ++ calls 3 (kill 2 10) ∷ calls 2 SysXend ∷ []
 
 abbrev pub SentTwiceAnswers : Type 0
-SentTwiceAnswers = answers_of (boot_state 64 3) [] sent_twice ≡ ok 0 ∷ ok 0 ∷ ok 0 ∷ ok 0 ∷ ok 0 ∷ committed ∷ []
+SentTwiceAnswers =
+    answers_of (boot_state 64 3) [] sent_twice ≡ ok 0 ∷ ok 0 ∷ ok 0 ∷ ok 0 ∷ ok 0 ∷ committed ∷ []
 
 abbrev pub SentTwiceState : Type 0
 SentTwiceState =
     let S : State = state_after (boot_state 64 3) sent_twice in
     (S.procs 1 ≡ Some (booted_process 1))
-    × (S.procs 2 ≡ Some (with_one_action 10 Ignore (with_one_pending 10 (standing 2 3 (pos 0) no_memory))))
+    × (S.procs 2
+    ≡ Some (with_one_action 10 Ignore (with_one_pending 10 (standing 2 3 (pos 0) no_memory))))
     × (S.procs 3 ≡ Some (standing 3 2 (pos 0) no_memory))
 
 -- a member's signal to an outsider is held, with the ids of its sender
@@ -89,27 +98,39 @@ HeldInsideState =
     (S.procs 1 ≡ Some (booted_process 1))
     × (S.procs 2 ≡ Some (standing 2 2 (pos 0) no_memory))
     × (S.procs 3 ≡ Some (booted_process 3))
-    × (S.held 2 ≡ record { target = 3; signo = 10; value = pos 0; from = Some (record { real = 0; effective = 0 }) } ∷ [])
+    × (S.held 2
+    ≡ record {
+      target = 3;
+      signo = 10;
+      value = pos 0;
+      from = Some (record { real = 0; effective = 0 });
+    }
+    ∷ [])
     × (V.table.marks 2 ≡ marked 2 false false)
     × (V.table.marks 3 ≡ None)
 
 -- it is not pending at its target before the commit
 abbrev pub sent_inside : List Step
-sent_inside = held_inside ++ calls 3 (Sigprocmask Block (record { 0 = 1024 })) ∷ calls 3 Sigpending ∷ []
+sent_inside =
+    held_inside ++ calls 3 (Sigprocmask Block (record { 0 = 1024 })) ∷ calls 3 Sigpending ∷ []
 
 -- after the commit it is
 abbrev pub held_signal : List Step
 held_signal = sent_inside ++ calls 2 SysXend ∷ calls 3 Sigpending ∷ []
 
 abbrev pub HeldSignalAnswers : Type 0
-HeldSignalAnswers = answers_of (boot_state 64 3) [] held_signal ≡ ok 0 ∷ ok 0 ∷ ok 0 ∷ ok 0 ∷ committed ∷ ok 1024 ∷ []
+HeldSignalAnswers =
+    answers_of (boot_state 64 3) [] held_signal
+    ≡ ok 0 ∷ ok 0 ∷ ok 0 ∷ ok 0 ∷ committed ∷ ok 1024 ∷ []
 
 -- and after an abort it never was sent
 abbrev pub held_undone : List Step
 held_undone = sent_inside ++ calls 2 SysXabort ∷ calls 3 Sigpending ∷ []
 
 abbrev pub HeldUndoneAnswers : Type 0
-HeldUndoneAnswers = answers_of (boot_state 64 3) [] held_undone ≡ ok 0 ∷ ok 0 ∷ ok 0 ∷ ok 0 ∷ Aborted 201 ∷ ok 0 ∷ []
+HeldUndoneAnswers =
+    answers_of (boot_state 64 3) [] held_undone
+    ≡ ok 0 ∷ ok 0 ∷ ok 0 ∷ ok 0 ∷ Aborted 201 ∷ ok 0 ∷ []
 
 -- the target of a held signal ended and was waited for: the commit says so, with ESRCH
 abbrev pub target_gone : List Step
@@ -192,18 +213,22 @@ FullHoldAnswers =
 
 -- held signals go out in their order
 abbrev pub held_in_turn : List Step
-held_in_turn = calls 2 SysXbegin ∷ calls 2 (sigqueue 3 34 1) ∷ calls 2 (sigqueue 3 34 2) ∷ calls 2 SysXend ∷ []
+held_in_turn =
+    calls 2 SysXbegin ∷ calls 2 (sigqueue 3 34 1) ∷ calls 2 (sigqueue 3 34 2) ∷ calls 2 SysXend ∷ []
 
 abbrev pub HeldInTurnState : Type 0
 HeldInTurnState =
-    (state_after (boot_state 64 3) held_in_turn).procs 3 ≡ Some (with_queue (entry 34 1 ∷ entry 34 2 ∷ []) (booted_process 3))
+    (state_after (boot_state 64 3) held_in_turn).procs 3
+    ≡ Some (with_queue (entry 34 1 ∷ entry 34 2 ∷ []) (booted_process 3))
 
 -- a queue has room for sixteen realtime signals; a standard one needs none
 abbrev pub full_queue : List Step
-full_queue = replicate 16 (calls 3 (sigqueue 2 34 7)) ++ calls 3 (sigqueue 2 35 7) ∷ calls 3 (kill 2 10) ∷ []
+full_queue =
+    replicate 16 (calls 3 (sigqueue 2 34 7)) ++ calls 3 (sigqueue 2 35 7) ∷ calls 3 (kill 2 10) ∷ []
 
 abbrev pub FullQueueAnswers : Type 0
-FullQueueAnswers = answers_of (boot_state 64 3) [] full_queue ≡ replicate 16 (ok 0) ++ error 11 ∷ ok 0 ∷ []
+FullQueueAnswers =
+    answers_of (boot_state 64 3) [] full_queue ≡ replicate 16 (ok 0) ++ error 11 ∷ ok 0 ∷ []
 
 abbrev pub FullQueueState : Type 0
 FullQueueState =

@@ -1,4 +1,5 @@
--- Short words for the schedules that are worked out: their steps, their answers, and the states that they leave.
+-- Short words for the schedules that are worked out: their steps, their answers, and the states
+-- that they leave.
 use Rattle.std.specs.Prelude.{ℕ, ◌+◌, ◌-◌, ◌^◌, Bool, List, [], ◌∷◌, ℤ, pos, negsuc, Option, Some, replicate, slice_set}
 use Rattle.tx_base.specs.declared.errors.Errno.{Errno}
 use Rattle.tx_base.specs.declared.marks.Mark.{Mark}
@@ -83,7 +84,8 @@ abbrev pub committed_without : List Missed → Reply
 committed_without signals = Committed (record { items = signals })
 
 abbrev pub missed : ℕ → ℕ → Errno → Missed
-missed t signo errno = record { target = record { 0 = t }; signo = record { 0 = signo }; errno = errno }
+missed t signo errno =
+    record { target = record { 0 = t }; signo = record { 0 = signo }; errno = errno }
 
 -- the transaction of this starter is in the way
 abbrev pub busy_with : ℕ → Reply
@@ -96,14 +98,19 @@ view_after S steps = view S (history_of S [] steps)
 abbrev pub state_after : State → List Step → State
 state_after S steps = present (view_after S steps)
 
--- the mark of a member: its starter, whether its part has ended, and whether deliveries are deferred
+-- the mark of a member: its starter, whether its part has ended, and whether deliveries are
+-- deferred
 abbrev pub marked : ℕ → Bool → Bool → Option Mark
-marked starter ended defers = Some (record { starter = record { 0 = starter }; ended = ended; defers = defers })
+marked starter ended defers =
+    Some (record { starter = record { 0 = starter }; ended = ended; defers = defers })
 
 -- the process as it was booted, except its point, its last answer and its memory
 abbrev pub standing : ℕ → ℕ → ℤ → Memory → Process
 standing n point ret memory =
-    record (booted_process n) { registers = record { point = point; ret = ret; slots = replicate 8 (pos 0) }; memory = memory }
+    record (booted_process n) {
+      registers = record { point = point; ret = ret; slots = replicate 8 (pos 0) };
+      memory = memory;
+    }
 
 -- the child of process 1 that ended with this status
 abbrev pub exited : ℕ → Process
@@ -119,7 +126,10 @@ of_parent n q = record q { parent = n }
 
 -- the process, except its slots
 abbrev pub with_slots : List ℤ → Process → Process
-with_slots slots q = record q { registers = record { point = q.registers.point; ret = q.registers.ret; slots = slots } }
+with_slots slots q =
+    record q {
+      registers = record { point = q.registers.point; ret = q.registers.ret; slots = slots };
+    }
 
 -- the process, except what its descriptors name
 abbrev pub with_open : List (Option ℕ) → Process → Process
@@ -145,7 +155,8 @@ entry signo value = record { signo = signo; value = pos value }
 abbrev pub with_queue : List Queued → Process → Process
 with_queue queued q = record q { queued = queued }
 
--- what a caught signal saved of a process at this point, whose last answer was 0 and which blocked nothing
+-- what a caught signal saved of a process at this point, whose last answer was 0 and which blocked
+-- nothing
 abbrev pub saved_at : ℕ → Frame
 saved_at point = record { registers = record first_registers { point = point }; mask = 0 }
 

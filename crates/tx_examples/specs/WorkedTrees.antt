@@ -24,7 +24,9 @@ child_undone =
     ∷ []
 
 abbrev pub ChildUndoneAnswers : Type 0
-ChildUndoneAnswers = answers_of (boot_state 64 2) [] child_undone ≡ ok 0 ∷ ok 7 ∷ ok 0 ∷ ok 0 ∷ Ended ∷ Aborted 201 ∷ ok 7 ∷ []
+ChildUndoneAnswers =
+    answers_of (boot_state 64 2) [] child_undone
+    ≡ ok 0 ∷ ok 7 ∷ ok 0 ∷ ok 0 ∷ Ended ∷ Aborted 201 ∷ ok 7 ∷ []
 
 abbrev pub ChildUndoneState : Type 0
 ChildUndoneState =
@@ -40,14 +42,18 @@ child_parked = calls 2 SysXbegin ∷ calls 2 (fork 7) ∷ calls 7 SysXend ∷ []
 abbrev pub ChildParkedState : Type 0
 ChildParkedState =
     let V : View = view_after (boot_state 64 2) child_parked in
-    (V.table.marks 1 ≡ None) × (V.table.marks 2 ≡ marked 2 false false) × (V.table.marks 7 ≡ marked 2 true false)
+    (V.table.marks 1 ≡ None)
+    × (V.table.marks 2 ≡ marked 2 false false)
+    × (V.table.marks 7 ≡ marked 2 true false)
 
 -- it waits for its starter, whose exit commits
 abbrev pub exit_commits : List Step
 exit_commits = child_parked ++ calls 7 Getpid ∷ calls 2 (Exit (pos 5)) ∷ calls 7 Getpid ∷ []
 
 abbrev pub ExitCommitsAnswers : Type 0
-ExitCommitsAnswers = answers_of (boot_state 64 2) [] exit_commits ≡ ok 0 ∷ ok 7 ∷ ok 0 ∷ No Parked ∷ committed ∷ ok 7 ∷ []
+ExitCommitsAnswers =
+    answers_of (boot_state 64 2) [] exit_commits
+    ≡ ok 0 ∷ ok 7 ∷ ok 0 ∷ No Parked ∷ committed ∷ ok 7 ∷ []
 
 abbrev pub ExitCommitsState : Type 0
 ExitCommitsState =
@@ -69,7 +75,9 @@ exit_undone =
     ∷ []
 
 abbrev pub ExitUndoneAnswers : Type 0
-ExitUndoneAnswers = answers_of (boot_state 64 2) [] exit_undone ≡ ok 0 ∷ ok 7 ∷ Ended ∷ busy_with 2 ∷ Aborted 201 ∷ ok 0 ∷ []
+ExitUndoneAnswers =
+    answers_of (boot_state 64 2) [] exit_undone
+    ≡ ok 0 ∷ ok 7 ∷ Ended ∷ busy_with 2 ∷ Aborted 201 ∷ ok 0 ∷ []
 
 abbrev pub ExitUndoneState : Type 0
 ExitUndoneState =
@@ -78,7 +86,8 @@ ExitUndoneState =
     × (S.procs 2 ≡ Some (standing 2 1 (negsuc 200) no_memory))
     × (S.procs 7 ≡ None)
 
--- a number is forked, waited for and forked again inside: the second child is a member whose part has not ended
+-- a number is forked, waited for and forked again inside: the second child is a member whose part
+-- has not ended
 abbrev pub forked_again : List Step
 forked_again =
     calls 2 SysXbegin
@@ -93,15 +102,22 @@ forked_again =
 
 abbrev pub ForkedAgainAnswers : Type 0
 ForkedAgainAnswers =
-    answers_of (boot_state 64 2) [] forked_again ≡ ok 0 ∷ ok 7 ∷ Ended ∷ ok 7 ∷ ok 7 ∷ ok 0 ∷ No Parked ∷ committed ∷ []
+    answers_of (boot_state 64 2) [] forked_again
+    ≡ ok 0 ∷ ok 7 ∷ Ended ∷ ok 7 ∷ ok 7 ∷ ok 0 ∷ No Parked ∷ committed ∷ []
 
 -- both have the status in slot 0, and SIGCHLD of the first child is pending
 abbrev pub ForkedAgainState : Type 0
 ForkedAgainState =
     let S : State = state_after (boot_state 64 2) forked_again in
     (S.procs 1 ≡ Some (booted_process 1))
-    × (S.procs 2 ≡ Some (with_one_pending 17 (with_slots (pos 1 ∷ replicate 7 (pos 0)) (standing 2 5 (pos 0) no_memory))))
-    × (S.procs 7 ≡ Some (of_parent 2 (with_slots (pos 1 ∷ replicate 7 (pos 0)) (standing 7 5 (pos 0) no_memory))))
+    × (S.procs 2
+    ≡ Some
+    (with_one_pending 17
+    (with_slots (pos 1 ∷ replicate 7 (pos 0)) (standing 2 5 (pos 0) no_memory))))
+    × (S.procs 7
+    ≡ Some
+    (of_parent 2
+    (with_slots (pos 1 ∷ replicate 7 (pos 0)) (standing 7 5 (pos 0) no_memory))))
 
 -- process 1 is notified of no child's end: process 3 may end while process 1 is reserved, and for
 -- process 2 nothing is held
@@ -115,7 +131,8 @@ first_not_told =
     ∷ []
 
 abbrev pub FirstNotToldAnswers : Type 0
-FirstNotToldAnswers = answers_of (boot_state 64 3) [] first_not_told ≡ ok 0 ∷ error 10 ∷ Ended ∷ ok 7 ∷ Ended ∷ []
+FirstNotToldAnswers =
+    answers_of (boot_state 64 3) [] first_not_told ≡ ok 0 ∷ error 10 ∷ Ended ∷ ok 7 ∷ Ended ∷ []
 
 abbrev pub FirstNotToldState : Type 0
 FirstNotToldState =
@@ -140,7 +157,8 @@ told_inside =
 
 abbrev pub ToldInsideAnswers : Type 0
 ToldInsideAnswers =
-    answers_of (boot_state 64 2) [] told_inside ≡ ok 0 ∷ ok 0 ∷ ok 7 ∷ Ended ∷ ok 131072 ∷ Aborted 201 ∷ ok 0 ∷ []
+    answers_of (boot_state 64 2) [] told_inside
+    ≡ ok 0 ∷ ok 0 ∷ ok 7 ∷ Ended ∷ ok 131072 ∷ Aborted 201 ∷ ok 0 ∷ []
 
 -- a child has the mask of its parent, but none of its pending signals
 abbrev pub child_starts_clear : List Step
@@ -205,13 +223,23 @@ IdsAnswers =
 -- the user ids 0, and the group ids 3
 abbrev pub in_group_three : Ids
 in_group_three =
-    record { real_user = 0; effective_user = 0; saved_user = 0; real_group = 3; effective_group = 3; saved_group = 3 }
+    record {
+      real_user = 0;
+      effective_user = 0;
+      saved_user = 0;
+      real_group = 3;
+      effective_group = 3;
+      saved_group = 3;
+    }
 
 abbrev pub IdsState : Type 0
 IdsState =
     let S : State = state_after (boot_state 64 2) ids in
     (S.procs 2
-    ≡ Some (with_one_pending 17 (with_ids in_group_three (with_slots (pos 3 ∷ replicate 7 (pos 0)) (standing 2 8 (pos 3) no_memory)))))
+    ≡ Some
+    (with_one_pending 17
+    (with_ids in_group_three
+    (with_slots (pos 3 ∷ replicate 7 (pos 0)) (standing 2 8 (pos 3) no_memory)))))
     × (S.procs 3 ≡ None)
 
 -- waits for a child that runs, for others, and for one that ended; process 1 does not end
@@ -247,5 +275,7 @@ WaitsState =
     let S : State = state_after (boot_state 64 2) waits in
     (S.procs 1 ≡ Some (standing 1 1 (negsuc 0) no_memory))
     × (S.procs 2
-    ≡ Some (with_one_pending 17 (with_slots (pos 255 ∷ replicate 7 (pos 0)) (standing 2 6 (negsuc 9) no_memory))))
+    ≡ Some
+    (with_one_pending 17
+    (with_slots (pos 255 ∷ replicate 7 (pos 0)) (standing 2 6 (negsuc 9) no_memory))))
     × (S.procs 3 ≡ None)

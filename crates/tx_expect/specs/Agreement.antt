@@ -18,7 +18,9 @@ names text (Some name) = bytes_eq text (codes "ok " ++ name)
 
 -- whether a text spells a reply: an error by its name, or any as a report or a session spells it
 abbrev pub spells : List ℕ → Reply → Bool
-spells text reply = names text (error_in reply) || (bytes_eq text (reply_text reply) || bytes_eq text (named_reply_text reply))
+spells text reply =
+    names text (error_in reply)
+    || (bytes_eq text (reply_text reply) || bytes_eq text (named_reply_text reply))
 
 -- whether that is so of what follows one space
 abbrev pub spells_at_once : List ℕ → Reply → Bool

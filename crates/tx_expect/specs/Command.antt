@@ -10,7 +10,8 @@ use Rattle.tx_script.specs.Grammars.{schedules, Grammar}
 
 -- what is reported of a text
 abbrev pub report_of : List ℕ → Header → List Step → List ℕ
-report_of text header steps = let p = whole_progress text header steps in p.report ++ counts_text p.tally
+report_of text header steps =
+    let p = whole_progress text header steps in p.report ++ counts_text p.tally
 
 -- a schedule that a text means, answered by that report
 abbrev pub expectations : List ℕ → Grammar (Header × List Step)
@@ -24,11 +25,18 @@ without_verdict (Err fault) = Err fault
 -- whether the expectations of a schedule that a text means are met
 abbrev pub IsVerdictOn : List ℕ → Bool → Type 0
 IsVerdictOn text met =
-    (spelled : Header × List Step) × (expectations text).IsGood spelled × (met ≡ is_well (whole_progress text spelled.0 spelled.1))
+    (spelled : Header × List Step)
+    × (expectations text).IsGood spelled
+    × (met ≡ is_well (whole_progress text spelled.0 spelled.1))
 
--- a text is read and the report of it written, or a front of that, or nothing, as the fault says; and whether its expectations are met is answered
-pub record Expects (left : Option (List ℕ)) (reads : Counts) (written : Option (List ℕ)) (writes : Counts) (result : Result Bool Fault) (reads' : Counts) (written' : Option (List ℕ)) (writes' : Counts) : Type 0 where
+-- a text is read and the report of it written, or a front of that, or nothing, as the fault says;
+-- and whether its expectations are met is answered
+pub record Expects (left : Option (List ℕ)) (reads : Counts) (written : Option (List ℕ))
+    (writes : Counts) (result : Result Bool Fault) (reads' : Counts) (written' : Option (List ℕ))
+    (writes' : Counts) : Type 0 where
   pub text : List ℕ
   pub whole : IfSome left (λ bytes. bytes ≡ text)
-  pub answers : Answers (expectations text) left reads written writes (without_verdict result) reads' written' writes'
+  pub answers :
+      Answers (expectations text) left reads written writes (without_verdict result) reads' written'
+      writes'
   pub met : IfOk result (IsVerdictOn text)

@@ -9,7 +9,8 @@ use Rattle.tx_translate.specs.Words.{is_blank, reading_after}
 use Rattle.tx_translate.specs.declared.reading.Reading.{Reading}
 use Rattle.tx_translate.specs.declared.reading.Reading.TheVariants.{Between, InWord, InString, AfterBackslash, InComment}
 
--- whether words are those of the header or of a step: there are some, and they give no name to a process
+-- whether words are those of the header or of a step: there are some, and they give no name to a
+-- process
 abbrev pub is_header_or_step : List (List ℕ) → Bool
 is_header_or_step [] = false
 is_header_or_step (word ∷ words) = not (is_some (naming_of word words))
@@ -36,7 +37,9 @@ is_in_comment InComment = true
 abbrev pub comment_from : Reading → List ℕ → Option (List ℕ)
 comment_from reading [] = None
 comment_from reading (byte ∷ bytes) =
-    if is_in_comment (reading_after reading byte) then Some bytes else comment_from (reading_after reading byte) bytes
+    if is_in_comment (reading_after reading byte)
+    then Some bytes
+    else comment_from (reading_after reading byte) bytes
 
 -- the comment of a line
 abbrev pub comment_in : List ℕ → Option (List ℕ)
@@ -45,7 +48,8 @@ comment_in line = comment_from Between line
 -- what follows the `=` with which a comment begins, which may be after blanks
 abbrev pub after_equals : List ℕ → Option (List ℕ)
 after_equals [] = None
-after_equals (byte ∷ bytes) = if nat_eq byte 61 then Some bytes else if is_blank byte then after_equals bytes else None
+after_equals (byte ∷ bytes) =
+    if nat_eq byte 61 then Some bytes else if is_blank byte then after_equals bytes else None
 
 -- the bytes before the first `#`
 abbrev pub before_by : List ℕ → Option (List ℕ × List ℕ) → List ℕ

@@ -12,9 +12,14 @@ IsExpected None reply = ⊥
 IsExpected (Some expected) reply = agrees expected reply ≡ true
 
 -- what is reported of the step of a line, and its verdict
-pub record IsReported (number : ℕ) (step : Step) (expected : Option (List ℕ)) (reply : Reply) : Type 0 where
-  pub silent : (step_report number step expected reply ≡ []) ↔ ((expected ≡ None) ⊎ IsExpected expected reply)
+pub record IsReported (number : ℕ) (step : Step) (expected : Option (List ℕ)) (reply : Reply)
+    : Type 0 where
+  pub silent :
+      (step_report number step expected reply ≡ []) ↔
+      ((expected ≡ None) ⊎ IsExpected expected reply)
   pub met : (step_verdict expected reply ≡ Met) ↔ IsExpected expected reply
 
 abbrev pub StepsAreReported : Type 0
-StepsAreReported = (number : ℕ) (step : Step) (expected : Option (List ℕ)) (reply : Reply) → IsReported number step expected reply
+StepsAreReported =
+    (number : ℕ) (step : Step) (expected : Option (List ℕ)) (reply : Reply)
+    → IsReported number step expected reply

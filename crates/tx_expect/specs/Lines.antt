@@ -37,11 +37,14 @@ expected_text expected = codes "expected " ++ (map shown (comment_text expected)
 
 -- what is reported of a step whose reply is not the expected one
 abbrev pub difference_text : ℕ → Step → List ℕ → Reply → List ℕ
-difference_text number step expected reply = step_place_text number step ++ (expected_text expected ++ (named_reply_text reply ++ 10 ∷ []))
+difference_text number step expected reply =
+    step_place_text number step ++ (expected_text expected ++ (named_reply_text reply ++ 10 ∷ []))
 
--- what is reported of a line without a step that expects a reply, and of one that begins a state before the last step
+-- what is reported of a line without a step that expects a reply, and of one that begins a state
+-- before the last step
 abbrev pub stray_text : ℕ → List ℕ → List ℕ
-stray_text number expected = place_text number ++ (expected_text expected ++ codes "no step in this line\n")
+stray_text number expected =
+    place_text number ++ (expected_text expected ++ codes "no step in this line\n")
 
 abbrev pub too_soon_text : ℕ → List ℕ
 too_soon_text number = place_text number ++ codes "# state must come after the last step\n"
@@ -62,9 +65,11 @@ step_verdict (Some expected) reply = if agrees expected reply then Met else Unme
 
 abbrev pub step_report : ℕ → Step → Option (List ℕ) → Reply → List ℕ
 step_report number step None reply = []
-step_report number step (Some expected) reply = if agrees expected reply then [] else difference_text number step expected reply
+step_report number step (Some expected) reply =
+    if agrees expected reply then [] else difference_text number step expected reply
 
--- how far the lines of a text are judged: whether the header was there, the steps to come with their replies, the verdicts, and what is reported
+-- how far the lines of a text are judged: whether the header was there, the steps to come with
+-- their replies, the verdicts, and what is reported
 pub record Progress : Type 0 where
   pub headed : Bool
   pub steps : List Step
@@ -84,7 +89,8 @@ progress_of judge = record {
 
 -- with one verdict more, and what is reported of it
 abbrev pub judged : Progress → Verdict → List ℕ → Progress
-judged p verdict report = record p { tally = tally_with p.tally verdict; report = p.report ++ report }
+judged p verdict report =
+    record p { tally = tally_with p.tally verdict; report = p.report ++ report }
 
 -- with an expectation more that is not met, where there is one
 abbrev pub judged_stray : Progress → Option (List ℕ) → Progress
@@ -96,12 +102,19 @@ abbrev pub after_step : ℕ → List ℕ → List Step → List Reply → Progre
 after_step number line [] replies p = judged_stray p (stray number line)
 after_step number line (step ∷ steps) [] p = judged_stray p (stray number line)
 after_step number line (step ∷ steps) (reply ∷ replies) p =
-    judged (record p { steps = steps; replies = replies }) (step_verdict (expected_in line) reply) (step_report number step (expected_in line) reply)
+    judged (record p { steps = steps; replies = replies }) (step_verdict (expected_in line) reply)
+    (step_report number step (expected_in line) reply)
 
 -- after the line of the header, or of the next step after it
 abbrev pub after_header_or_step : ℕ → List ℕ → Progress → Progress
-after_header_or_step number line p = if p.headed then after_step number line p.steps p.replies p else judged_stray (record p { headed = true }) (stray number line)
+after_header_or_step number line p =
+    if p.headed
+    then after_step number line p.steps p.replies p
+    else judged_stray (record p { headed = true }) (stray number line)
 
 -- after the line of that number
 abbrev pub after_line : ℕ → List ℕ → Progress → Progress
-after_line number line p = if is_header_or_step (words_in line) then after_header_or_step number line p else judged_stray p (stray number line)
+after_line number line p =
+    if is_header_or_step (words_in line)
+    then after_header_or_step number line p
+    else judged_stray p (stray number line)

@@ -24,7 +24,8 @@ abbrev pub is_last : List Step → Bool
 is_last [] = true
 is_last (step ∷ steps) = false
 
--- whether the lines of the state are expected after a line: the header was there, and no step is to come
+-- whether the lines of the state are expected after a line: the header was there, and no step is to
+-- come
 abbrev pub is_at_state : Progress → List ℕ → Bool
 is_at_state p line = p.headed && (is_last p.steps && begins_state line)
 
@@ -36,7 +37,9 @@ judged_state p difference = judged p (state_verdict difference) (state_report di
 abbrev pub after_lines : List (List ℕ) → ℕ → Progress → List (List ℕ) → Progress
 after_lines state number p [] = p
 after_lines state number p (line ∷ lines) =
-    if is_at_state p line then judged_state p (state_difference number lines (number + 1) state) else after_lines state (number + 1) (after_line number line p) lines
+    if is_at_state p line
+    then judged_state p (state_difference number lines (number + 1) state)
+    else after_lines state (number + 1) (after_line number line p) lines
 
 -- where the lines of the state are expected after a line of that number, what follows it
 abbrev pub after_stop : List (List ℕ) → Progress → Option (ℕ × List (List ℕ)) → Progress
@@ -48,21 +51,27 @@ abbrev pub none_counted : Tally
 none_counted = record { met = 0; unmet = 0; silent = 0 }
 
 abbrev pub first_progress : List Step → List Reply → Progress
-first_progress steps replies = record { headed = false; steps = steps; replies = replies; tally = none_counted; report = [] }
+first_progress steps replies =
+    record { headed = false; steps = steps; replies = replies; tally = none_counted; report = [] }
 
 -- the lines of a state, without the word before them
 abbrev pub state_lines : List ℕ → List (List ℕ)
 state_lines text = drop 1 (own_lines text)
 
--- what a text comes to that means a schedule: each reply is the step's on the history before it, and the state is that of the history that all leave
+-- what a text comes to that means a schedule: each reply is the step's on the history before it,
+-- and the state is that of the history that all leave
 abbrev pub whole_progress : List ℕ → Header → List Step → Progress
 whole_progress text header steps =
-    after_lines (state_lines (state_text (last_view header steps))) 1 (first_progress steps (answers_of (start_state header) [] steps)) (own_lines text)
+    after_lines (state_lines (state_text (last_view header steps))) 1
+    (first_progress steps (answers_of (start_state header) [] steps)) (own_lines text)
 
 -- how many expectations are met, how many are not, and how many steps expect nothing
 abbrev pub counts_text : Tally → List ℕ
 counts_text tally =
-    decimal tally.met ++ (codes " as expected, " ++ (decimal tally.unmet ++ (codes " not, " ++ (decimal tally.silent ++ codes " expect nothing\n"))))
+    decimal tally.met
+    ++ (codes " as expected, "
+    ++ (decimal tally.unmet
+    ++ (codes " not, " ++ (decimal tally.silent ++ codes " expect nothing\n"))))
 
 -- whether some expectations are met, and none is not
 abbrev pub is_met : Tally → Bool
@@ -79,5 +88,8 @@ pub record IsOutcome (p : Progress) (outcome : Outcome) : Type 0 where
 
 -- the outcome of the schedule that a text means, or the fault of the text
 abbrev pub ExpectsText : List ℕ → Result Outcome Fault → Type 0
-ExpectsText text (Ok outcome) = (schedule : Schedule) × MeansSchedule text schedule × IsOutcome (whole_progress text schedule.header schedule.steps.items) outcome
+ExpectsText text (Ok outcome) =
+    (schedule : Schedule)
+    × MeansSchedule text schedule
+    × IsOutcome (whole_progress text schedule.header schedule.steps.items) outcome
 ExpectsText text (Err fault) = FaultsBy (IsOwnFault IsFaultOf text) fault

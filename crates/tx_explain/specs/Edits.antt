@@ -26,7 +26,8 @@ is_near_topic most word topic = is_near most word topic.word.now
 
 -- the first word that is explained and so many edits away, or fewer
 abbrev pub near_word : ℕ → Text → Option Text
-near_word most word = option_map name_in (find (λ (row : Row). is_near most word (name_in row)) (rows_in all_rows))
+near_word most word =
+    option_map name_in (find (λ (row : Row). is_near most word (name_in row)) (rows_in all_rows))
 
 -- the first word of those that are the fewest edits away, and fewer than so many
 abbrev pub nearest_below : ℕ → Text → Option Text

@@ -29,7 +29,8 @@ row word also says = row_saying (codes word ∷ map codes also) says
 -- an error by its name and its number, which is negative as an answer
 abbrev pub error_row : String → Errno → String → Row
 error_row name error says =
-    let number = decimal (error_number error) in row_saying (codes name ∷ (45 ∷ number) ∷ number ∷ []) says
+    let number = decimal (error_number error) in
+    row_saying (codes name ∷ (45 ∷ number) ∷ number ∷ []) says
 
 -- a number that is answered, by itself
 abbrev pub status_row : ℕ → String → Row
@@ -54,16 +55,19 @@ abbrev pub refusal_rows : List Row
 refusal_rows =
     row "N1" ("NoProcess" ∷ []) "there is no process of that number (NoProcess)."
     ∷ row "N2" ("NotRunning" ∷ []) "the process of the step: it has ended (NotRunning)."
-    ∷ row "N3" ("BadNumber" ∷ []) "a number that the step chooses is out of range, or both descriptions of a"
+    ∷ row "N3" ("BadNumber" ∷ [])
+    "a number that the step chooses is out of range, or both descriptions of a"
     ∷ row "N4" ("NumberTaken" ∷ []) "a number that the step chooses is in use (NumberTaken)."
     ∷ row "N5" ("Doomed" ∷ []) "its transaction is doomed (Doomed)."
     ∷ row "N6" ("Parked" ∷ []) "it has ended its part of its transaction (Parked)."
-    ∷ row "N7" ("KillPending" ∷ []) "SIGKILL is pending at it, and the step does not deliver it (KillPending)."
+    ∷ row "N7" ("KillPending" ∷ [])
+    "SIGKILL is pending at it, and the step does not deliver it (KillPending)."
     ∷ row "N8" ("Busy" ∷ []) "another transaction is in the way (reservations, two answers) (Busy)."
     ∷ row "N9" ("Wait" ∷ []) "the call waits: a read, a write or a waitpid (Wait)."
     ∷ row "N10" ("NotDeliverable" ∷ []) "the signal can't be delivered now (NotDeliverable)."
     ∷ row "N11" ("FramesFull" ∷ []) "a caught delivery with four frames in use (FramesFull)."
-    ∷ row "N12" ("NoTransaction" ∷ []) "the kernel's abort of a number that is no live starter (NoTransaction)."
+    ∷ row "N12" ("NoTransaction" ∷ [])
+    "the kernel's abort of a number that is no live starter (NoTransaction)."
     ∷ row "N13" ("NoMemory" ∷ []) "a growth of memory was refused (NoMemory)."
     ∷ row "N14" ("Deferred" ∷ []) "the transaction defers the delivery (Deferred)."
     ∷ []
@@ -95,8 +99,10 @@ sent_rows =
 
 abbrev pub notice_rows : List Row
 notice_rows =
-    row "SIGPIPE" ("13" ∷ []) "signal 13, which a write to a pipe without a reader sends its caller."
-    ∷ row "SIGCHLD" ("CHLD" ∷ "17" ∷ []) "signal 17, which the end of a process sends to its parent."
+    row "SIGPIPE" ("13" ∷ [])
+    "signal 13, which a write to a pipe without a reader sends its caller."
+    ∷ row "SIGCHLD" ("CHLD" ∷ "17" ∷ [])
+    "signal 17, which the end of a process sends to its parent."
     ∷ row "realtime" ("32" ∷ "33" ∷ "34" ∷ "35" ∷ "36" ∷ "37" ∷ "38" ∷ "39" ∷ [])
     "the signals 32 to 39, which are queued, each with its value."
     ∷ []
@@ -110,7 +116,8 @@ error_rows =
     ∷ error_row "EAGAIN" TryAgain "11, answered as -11: try again."
     ∷ error_row "EFAULT" BadAddress "14, answered as -14: a bad address."
     ∷ error_row "EINVAL" InvalidArgument "22, answered as -22: an argument is wrong."
-    ∷ error_row "EMFILE" TooManyDescriptors "24, answered as -24: too many descriptors. A process has 16."
+    ∷ error_row "EMFILE" TooManyDescriptors
+    "24, answered as -24: too many descriptors. A process has 16."
     ∷ error_row "EPIPE" BrokenPipe "32, answered as -32: a broken pipe."
     ∷ status_row CLOSED_INSIDE "answered as -200: a call that is closed inside a transaction."
     ∷ []
@@ -126,7 +133,8 @@ abbrev pub reply_rows : List Row
 reply_rows =
     row "ok" [] "the step was accepted and answered RET; POSIX error E is -E."
     ∷ row "ended" [] "the step ended the process."
-    ∷ row "committed" ("commit" ∷ []) "the step committed the transaction; a send of signal S to process T"
+    ∷ row "committed" ("commit" ∷ [])
+    "the step committed the transaction; a send of signal S to process T"
     ∷ row "aborted" ("abort" ∷ []) "the step aborted the transaction."
     ∷ row "out" [] "the step wrote bytes to the console."
     ∷ row "no" [] "the step was refused; N1 to N14 say why."
@@ -164,7 +172,8 @@ descriptor_rows =
     ∷ row "dup" [] "makes the lowest free descriptor name F's description too."
     ∷ row "dup2" [] "makes descriptor G name F's description too."
     ∷ row "close" [] "closes descriptor F."
-    ∷ row "set_nonblock" ("on" ∷ "off" ∷ "O_NONBLOCK" ∷ []) "makes F's description non-blocking or blocking."
+    ∷ row "set_nonblock" ("on" ∷ "off" ∷ "O_NONBLOCK" ∷ [])
+    "makes F's description non-blocking or blocking."
     ∷ row "read" [] "reads V bytes from descriptor F to address A."
     ∷ row "write" [] "writes V bytes from address A to descriptor F: all of them, or none."
     ∷ []
@@ -173,7 +182,8 @@ abbrev pub signal_rows : List Row
 signal_rows =
     row "kill" [] "sends process T the signal V, as sigqueue does with the value 0."
     ∷ row "sigqueue" [] "sends process T the signal, with a value."
-    ∷ row "sigaction" ("default" ∷ "ignore" ∷ "catch" ∷ []) "says what signal V does when it is delivered."
+    ∷ row "sigaction" ("default" ∷ "ignore" ∷ "catch" ∷ [])
+    "says what signal V does when it is delivered."
     ∷ row "sigprocmask" ("unblock" ∷ []) "adds to the mask, takes from it, or sets it."
     ∷ row "sigpending" [] "asks which blocked signals are pending."
     ∷ row "sigreturn" [] "goes back to where a signal was caught last."
@@ -205,7 +215,8 @@ debugger_rows =
     ∷ row "forward" [] "makes the next step again."
     ∷ row "goto" [] "goes to position K, the place after the first K accepted steps."
     ∷ row "state" [] "prints the state, and stays."
-    ∷ row "moved" ("one" ∷ "many" ∷ []) "says whether a transaction counts as one moment; the position stays."
+    ∷ row "moved" ("one" ∷ "many" ∷ [])
+    "says whether a transaction counts as one moment; the position stays."
     ∷ row "at" [] "at K, the answer of a debugger's command: K is the new position."
     ∷ []
 
@@ -244,8 +255,10 @@ signal_line_rows =
     row "mask" [] "the blocked signals, which are not delivered."
     ∷ row "action" [] "what a signal does when it is delivered."
     ∷ row "pending" [] "the standard signals that were sent and not yet delivered."
-    ∷ row "queued" ("queue" ∷ []) "the realtime signals that were sent and not yet delivered; 16 at most."
-    ∷ row "frame" ("frames" ∷ []) "what sigreturn goes back to: point, answer, mask and slots; 4 at most."
+    ∷ row "queued" ("queue" ∷ [])
+    "the realtime signals that were sent and not yet delivered; 16 at most."
+    ∷ row "frame" ("frames" ∷ [])
+    "what sigreturn goes back to: point, answer, mask and slots; 4 at most."
     ∷ []
 
 abbrev pub other_line_rows : List Row
@@ -263,9 +276,11 @@ abbrev pub text_rows : List Row
 text_rows =
     row "txos" [] "the first word of a text, and then its version, its kind and a number."
     ∷ row "comment" ("blank" ∷ []) "in a text of version 3, # and what follows it in its line."
-    ∷ row "name" ("names" ∷ []) "gives a process a name, in a schedule of version 3 and in the shell."
+    ∷ row "name" ("names" ∷ [])
+    "gives a process a name, in a schedule of version 3 and in the shell."
     ∷ row "schedule" ("step" ∷ []) "a text that says which process makes which step when."
-    ∷ row "program" ("instruction" ∷ []) "a text that says what each process does; all run the same."
+    ∷ row "program" ("instruction" ∷ [])
+    "a text that says what each process does; all run the same."
     ∷ row "label" [] "names the number of the next instruction of a program."
     ∷ row "number" [] "0, or digits that do not begin with 0, with - before a negative one."
     ∷ row "hex" ("bytes" ∷ "string" ∷ []) "bytes of two lower-case hex digits each: 6869 is \"hi\"."
@@ -278,11 +293,14 @@ notion_rows =
     row "transaction" [] "steps that all take effect, or none: from a sys_xbegin until the"
     ∷ row "member" [] "the starter of a transaction, and each process that a member forks."
     ∷ row "starter" [] "the process that began a transaction, whose number names it."
-    ∷ row "reserved" ("footprint" ∷ []) "the processes, descriptions and pipes that a member's steps read or"
+    ∷ row "reserved" ("footprint" ∷ [])
+    "the processes, descriptions and pipes that a member's steps read or"
     ∷ row "privileged" [] "a process whose effective user id is 0, as all are at the start."
-    ∷ row "worker" ("w1" ∷ []) "a thread that takes turns for processes of a program: w1 in a report."
+    ∷ row "worker" ("w1" ∷ [])
+    "a thread that takes turns for processes of a program: w1 in a report."
     ∷ row "turn" [] "one step, or none, for one process that runs."
-    ∷ row "zombie" ("zombies" ∷ []) "a process that has ended, and that its parent has not waited for."
+    ∷ row "zombie" ("zombies" ∷ [])
+    "a process that has ended, and that its parent has not waited for."
     ∷ row "eof" [] "a read that answers 0, since its pipe is empty and has no writer."
     ∷ []
 

@@ -66,7 +66,10 @@ abbrev pub are_lines_from : ℕ → Text → Bool
 are_lines_from column [] = column == 0
 are_lines_from column (byte ∷ bytes) =
     if byte == 10 then are_lines_from 0 bytes
-    else (nat_le 32 byte && nat_le byte 126 && nat_le (column + 1) 79 && are_lines_from (column + 1) bytes)
+    else (nat_le 32 byte
+    && nat_le byte 126
+    && nat_le (column + 1) 79
+    && are_lines_from (column + 1) bytes)
 
 -- lines, each with its end
 abbrev pub is_page : Text → Bool

@@ -11,7 +11,8 @@ accepted_of e = record { step = e.step; reply = e.reply }
 abbrev pub entry_by : ℕ → Accepted → Entry
 entry_by worker made = record { step = made.step; worker = worker; reply = made.reply }
 
--- the history of some entries: the oldest entry is the first, but the history has its newest step first
+-- the history of some entries: the oldest entry is the first, but the history has its newest step
+-- first
 abbrev pub history_of : List Entry → List Accepted
 history_of entries = reverse (map accepted_of entries)
 

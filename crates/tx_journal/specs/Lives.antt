@@ -17,7 +17,8 @@ starter_of t (Calls p call) = starter_by p.0 (t.marks p.0)
 starter_of t (Deliver p signo) = starter_by p.0 (t.marks p.0)
 starter_of t (KernelAbort s) = s.0
 
--- whether the step's place was reserved at the sys_xbegin of the transaction that it aborts: so for the kernel's abort, and a member's
+-- whether the step's place was reserved at the sys_xbegin of the transaction that it aborts: so for
+-- the kernel's abort, and a member's
 abbrev pub has_place : Table → Step → Bool
 has_place t (Calls p SysXabort) = is_some (t.marks p.0)
 has_place t (Calls p call) = false

@@ -31,8 +31,13 @@ commit_of n = if n.commits then n.starter else None
 unfoldable pub parted_by : ℕ → List Noted → Numbers
 parted_by s [] = record { own = []; others = [] }
 parted_by s (n ∷ ns) =
-    if begins_its s n then record { own = suc (length ns) ∷ []; others = numbers_above 0 (length ns) }
-    else (if is_starter s n.starter then with_own_number (suc (length ns)) (parted_by s ns) else with_other_number (suc (length ns)) (parted_by s ns))
+    if begins_its s n then record {
+      own = suc (length ns) ∷ [];
+      others = numbers_above 0 (length ns);
+    }
+    else (if is_starter s n.starter
+    then with_own_number (suc (length ns)) (parted_by s ns)
+    else with_other_number (suc (length ns)) (parted_by s ns))
 
 -- no step of the transaction of s, back to its first, shows its moment
 unfoldable pub is_silent_by : ℕ → List Noted → Bool

@@ -11,8 +11,8 @@ use Rattle.tx_model.specs.View.{View, event_on, present, role_on}
 use Rattle.tx_reserve.specs.Reservations.{number_of}
 use Rattle.tx_journal.specs.declared.notes.Note.{Note}
 
--- what a step is to its transaction: who started it, if the step is of one; whether the step is its first; whether the step commits it; and
--- whether it shows its moment
+-- what a step is to its transaction: who started it, if the step is of one; whether the step is its
+-- first; whether the step commits it; and whether it shows its moment
 pub record Noted : Type 0 where
   pub starter : Option ℕ
   pub begins : Bool
@@ -62,22 +62,37 @@ note_of S e h = record {
 
 -- the note, with numbers in place of processes
 abbrev pub noted : Note → Noted
-noted note = record { starter = option_map number_of note.starter; begins = note.begins; commits = note.commits; reveals = note.reveals }
+noted note =
+    record {
+      starter = option_map number_of note.starter;
+      begins = note.begins;
+      commits = note.commits;
+      reveals = note.reveals;
+    }
 
 -- the note says what the step is to its transaction
 abbrev pub IsNoteOf : State → Accepted → List Accepted → Note → Type 0
 IsNoteOf S e h note = noted note ≡ note_of S e h
 
--- whether a step of process p, which looks at its signals or not and with which this is posted, shows the moment of the transaction of this
--- starter
+-- whether a step of process p, which looks at its signals or not and with which this is posted,
+-- shows the moment of the transaction of this starter
 abbrev pub reveals_by : Option ℕ → ℕ → Bool → List Sending → Bool
 reveals_by None p looks ms = false
 reveals_by (Some s) p looks ms = (p == s && looks) || is_sent_to s ms
 
 -- the same as the note of a step, by its role
 abbrev pub noted_by : Role → ℕ → Bool → List Sending → Noted
-noted_by role p looks ms = record { starter = starter_by role; begins = begins_one role; commits = commits_one role; reveals = reveals_by (starter_by role) p looks ms }
+noted_by role p looks ms =
+    record {
+      starter = starter_by role;
+      begins = begins_one role;
+      commits = commits_one role;
+      reveals = reveals_by (starter_by role) p looks ms;
+    }
 
 -- the note says what the step is to its transaction on the view
 abbrev pub IsNoteOn : View → Step → Note → Type 0
-IsNoteOn V step note = noted note ≡ noted_by (role_on V step) (process_of step) (looks_at_signals step) (effect (event_on V step) (present V)).sends
+IsNoteOn V step note =
+    noted note
+    ≡ noted_by (role_on V step) (process_of step) (looks_at_signals step)
+    (effect (event_on V step) (present V)).sends

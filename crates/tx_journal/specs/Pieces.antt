@@ -18,4 +18,7 @@ piece_text (Queue p) V = queue_of ((present V).procs p.0)
 piece_text (Ids p) V = ids_of ((present V).procs p.0)
 piece_text (Desc number) V = desc_line number.0 ((present V).descs number.0)
 piece_text (Pipe number) V = pipe_line number.0 ((present V).pipes number.0)
-piece_text (Txn starter) V = if nat_le starter.0 V.table.width then txn_lines V.table.width V.table.marks (present V).held starter.0 else []
+piece_text (Txn starter) V =
+    if nat_le starter.0 V.table.width
+    then txn_lines V.table.width V.table.marks (present V).held starter.0
+    else []

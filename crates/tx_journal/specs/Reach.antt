@@ -23,9 +23,11 @@ abbrev pub own_table : ℕ → Table → Table
 own_table s t = record t { marks = λ n. own_mark s (t.marks n) }
 
 module _ (V : View) (step : Step) where
-  -- whether the step names the object, as if no other transaction were live: so each process that it sends a signal is among what it names
+  -- whether the step names the object, as if no other transaction were live: so each process that
+  -- it sends a signal is among what it names
   abbrev pub is_named : Object → Bool
-  is_named o = has_object o (footprint (own_table (starter_of V.table step) V.table) step (present V))
+  is_named o =
+      has_object o (footprint (own_table (starter_of V.table step) V.table) step (present V))
 
   -- whether it aborts a transaction that has reserved the object
   abbrev pub is_given_up : Object → Bool
@@ -34,7 +36,8 @@ module _ (V : View) (step : Step) where
   abbrev pub may_change : Object → Bool
   may_change o = is_named o || is_given_up o
 
-  -- whether it may change the lines of a piece: an object's, or those of the transaction that it is a step of
+  -- whether it may change the lines of a piece: an object's, or those of the transaction that it is
+  -- a step of
   abbrev pub is_reached : Piece → Bool
   is_reached (pieces.Proc p) = may_change (Proc p.0)
   is_reached (pieces.Page p number) = may_change (Proc p.0)

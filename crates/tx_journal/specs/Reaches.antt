@@ -16,7 +16,8 @@ use Rattle.tx_reserve.specs.Objects.{is_small}
 pub record Reaches (reach : Reach) (V : View) (step : Step) : Type 0 where
   pub starter : reach.starter.0 ≡ starter_of V.table step
   pub aborts : reach.aborts ≡ has_place V.table step
-  pub names : IsSetOf reach.names (footprint (own_table (starter_of V.table step) V.table) step (present V))
+  pub names :
+      IsSetOf reach.names (footprint (own_table (starter_of V.table step) V.table) step (present V))
 
 -- the piece is of an object of a number that one may have, or it is a transaction
 abbrev pub IsSmall : Piece → Type 0

@@ -28,12 +28,14 @@ pub record HasPlaces (j : Journal) (count : ℕ) : Type 0 where
 abbrev pub HasAbortPlaces : Content → Journal → Type 0
 HasAbortPlaces k j = HasPlaces j (lives (view_of k).table)
 
--- there is room for the entry of a step, and for the abort of each transaction that is live after it
+-- there is room for the entry of a step, and for the abort of each transaction that is live after
+-- it
 abbrev pub IsReady : Table → Step → Journal → Type 0
 IsReady t step j = HasPlaces j (lives t + 2) ⊎ (HasPlaces j (lives t) × (has_place t step ≡ true))
 
 -- the entry was added, with what leads the content back
-pub record IsAdded (k : Content) (j : Journal) (entry : Entry) (new : Content) (after : Journal) : Type 0 where
+pub record IsAdded (k : Content) (j : Journal) (entry : Entry) (new : Content) (after : Journal)
+    : Type 0 where
   pub inverse : Inverse
   pub entries : after.entries.items ≡ j.entries.items ++ entry ∷ []
   pub inverses : after.crossings.inverses ≡ j.crossings.inverses ++ inverse ∷ []

@@ -32,7 +32,9 @@ row_pieces row width = first_pieces row (limit_of row width)
 
 -- the processes, descriptions, pipes and live transactions of a state, by rising numbers
 abbrev pub state_pieces : ℕ → List Piece
-state_pieces width = row_pieces Procs width ++ (row_pieces Descs width ++ (row_pieces Pipes width ++ row_pieces Txns width))
+state_pieces width =
+    row_pieces Procs width
+    ++ (row_pieces Descs width ++ (row_pieces Pipes width ++ row_pieces Txns width))
 
 -- the lines that each of some pieces has
 abbrev pub lines_of : List Piece → View → List (List ℕ)

@@ -15,8 +15,8 @@ use Rattle.tx_model.specs.Answer.{Lawful}
 use Rattle.tx_model.specs.History.{table_of}
 use Rattle.tx_model.specs.State.{State, boot_state}
 
--- the machine's content; all entries, the oldest first; what takes back those that are made, the oldest first; how many processes there may
--- be, and with how many it was booted
+-- the machine's content; all entries, the oldest first; what takes back those that are made, the
+-- oldest first; how many processes there may be, and with how many it was booted
 pub record SessionState : Type 0 where
   pub machine : Content
   pub entries : List Entry
@@ -26,7 +26,14 @@ pub record SessionState : Type 0 where
 
 -- what a session keeps, of its fields
 abbrev pub session_state : Content → Journal → ℕ → ℕ → SessionState
-session_state machine journal width count = record { machine = machine; entries = journal.entries.items; inverses = journal.crossings.inverses; width = width; count = count }
+session_state machine journal width count =
+    record {
+      machine = machine;
+      entries = journal.entries.items;
+      inverses = journal.crossings.inverses;
+      width = width;
+      count = count;
+    }
 
 -- the state in which it was booted
 abbrev pub start_of : SessionState → State
@@ -40,7 +47,8 @@ position_of k = length k.inverses
 abbrev pub made_of : SessionState → List Entry
 made_of k = take (position_of k) k.entries
 
--- the journal is a lawful history, and the machine has the view of the entries that are made, which can be taken back
+-- the journal is a lawful history, and the machine has the view of the entries that are made, which
+-- can be taken back
 pub record IsJournal (k : SessionState) : Type 0 where
   pub low : 1 ≤ k.count
   pub high : k.count ≤ k.width
@@ -55,13 +63,15 @@ later_of k = map accepted_of (drop (position_of k) k.entries)
 
 -- what is kept makes the following entries again, the next one first
 abbrev pub IsAhead : SessionState → List Undone → List Change → Type 0
-IsAhead k undone stack = WalksOn (start_of k) k.machine undone stack (history_of (made_of k)) (later_of k)
+IsAhead k undone stack =
+    WalksOn (start_of k) k.machine undone stack (history_of (made_of k)) (later_of k)
 
 -- how many transactions are live after the last entry
 abbrev pub lives_at_end : SessionState → ℕ
 lives_at_end k = lives (table_of (start_of k) (history_of k.entries))
 
--- given for how many entries and inverses there is room: there is room for the abort of each of those
+-- given for how many entries and inverses there is room: there is room for the abort of each of
+-- those
 pub record HasRoom (k : SessionState) (room places : ℕ) : Type 0 where
   pub entries : length k.entries + lives_at_end k ≤ room
   pub inverses : length k.entries + lives_at_end k ≤ places

@@ -19,18 +19,23 @@ pub record Numbered : Type 0 where
 abbrev pub numbered : Touch → Numbered
 numbered touch = record { number = touch.number; step = touch.step.now }
 
--- the first step since which the transaction of s has reserved the object, after each step up to now: before that one it had not. None if it
--- has not reserved it now
+-- the first step since which the transaction of s has reserved the object, after each step up to
+-- now: before that one it had not. None if it has not reserved it now
 unfoldable pub first_touch : State → List Accepted → ℕ → Object → Option Numbered
 first_touch S [] s o = None
 first_touch S (e ∷ h) s o =
-    if reserved_of S (e ∷ h) s o then (if reserved_of S h s o then first_touch S h s o else Some (record { number = suc (length h); step = e.step })) else None
+    if reserved_of S (e ∷ h) s o
+    then (if reserved_of S h s o
+    then first_touch S h s o
+    else Some (record { number = suc (length h); step = e.step }))
+    else None
 
 -- whether it is a step inside the transaction of s before which that had not reserved the object
 abbrev pub is_first : ℕ → Object → MemberStep → Bool
 is_first s o step = step.starter.0 == s && not (is_in step.objects o)
 
--- whether it was a step of the transaction of s before which the transaction had not reserved the object
+-- whether it was a step of the transaction of s before which the transaction had not reserved the
+-- object
 abbrev pub comes_first : ℕ → Object → Inverse → Bool
 comes_first s o (Outside log post) = false
 comes_first s o (Inside step held) = is_first s o step
@@ -43,4 +48,6 @@ unfoldable pub newest_first : ℕ → Object → List Inverse → List Accepted 
 newest_first s o [] h = None
 newest_first s o (inverse ∷ inverses) [] = None
 newest_first s o (inverse ∷ inverses) (e ∷ h) =
-    if comes_first s o inverse then Some (record { number = suc (length h); step = e.step }) else newest_first s o inverses h
+    if comes_first s o inverse
+    then Some (record { number = suc (length h); step = e.step })
+    else newest_first s o inverses h

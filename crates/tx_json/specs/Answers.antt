@@ -32,7 +32,8 @@ lines_front at text = begin_object ++ (count_member (codes "at") at ++ lines_mem
 
 -- a position, the lines of a text, and members after them
 abbrev pub lines_with : ℕ → List ℕ → List Token → List Token
-lines_with at text members = begin_object ++ (count_member (codes "at") at ++ (lines_member text ++ (members ++ end_object)))
+lines_with at text members =
+    begin_object ++ (count_member (codes "at") at ++ (lines_member text ++ (members ++ end_object)))
 
 -- the number of a step, where it was accepted
 abbrev pub number_members : ℕ → Reply → List Token
@@ -45,16 +46,22 @@ number_members number (Out bytes) = count_member (codes "step") number
 
 -- a step's number, where it was accepted, and its reply
 abbrev pub step_answer : ℕ → Reply → List Token
-step_answer number reply = begin_object ++ (number_members number reply ++ (reply_members reply ++ end_object))
+step_answer number reply =
+    begin_object ++ (number_members number reply ++ (reply_members reply ++ end_object))
 
 -- an entry of a journal: its number, the worker that made the step, the step's text, and its reply
 abbrev pub entry_answer : ℕ → ℕ → List ℕ → Reply → List Token
 entry_answer number worker step reply =
-    begin_object ++ (count_member (codes "step") number ++ (count_member (codes "worker") worker ++ (word_member (codes "text") step ++ (reply_members reply ++ end_object))))
+    begin_object
+    ++ (count_member (codes "step") number
+    ++ (count_member (codes "worker") worker
+    ++ (word_member (codes "text") step ++ (reply_members reply ++ end_object))))
 
 -- a position, the reply that a step would get there, and the lines of a text
 abbrev pub trial_answer : ℕ → Reply → List ℕ → List Token
-trial_answer at reply text = begin_object ++ (count_member (codes "at") at ++ (reply_members reply ++ (lines_member text ++ end_object)))
+trial_answer at reply text =
+    begin_object
+    ++ (count_member (codes "at") at ++ (reply_members reply ++ (lines_member text ++ end_object)))
 
 -- the key of a state
 unfoldable pub state_key : List Token
@@ -62,7 +69,8 @@ state_key = Token.key (codes "state") ∷ []
 
 -- a position, and the state there
 abbrev pub state_answer : ℕ → View → List Token
-state_answer at V = begin_object ++ (count_member (codes "at") at ++ (state_key ++ (state_tokens V ++ end_object)))
+state_answer at V =
+    begin_object ++ (count_member (codes "at") at ++ (state_key ++ (state_tokens V ++ end_object)))
 
 -- what is wrong
 abbrev pub error_answer : List ℕ → List Token

@@ -7,7 +7,10 @@ use Rattle.tx_json.specs.declared.holders.Holder.{Holder}
 
 -- a descriptor of a process
 abbrev pub holder_tokens : Holder → List Token
-holder_tokens holder = begin_object ++ (count_member (codes "process") holder.process ++ (count_member (codes "descriptor") holder.descriptor ++ end_object))
+holder_tokens holder =
+    begin_object
+    ++ (count_member (codes "process") holder.process
+    ++ (count_member (codes "descriptor") holder.descriptor ++ end_object))
 
 -- a list of them, under that name
 abbrev pub holders_member : List ℕ → List Holder → List Token

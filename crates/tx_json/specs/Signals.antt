@@ -13,19 +13,29 @@ use Rattle.tx_model.specs.State.{Frame, Process, Queued}
 -- the action of a signal, where it is not the usual one
 abbrev pub action_item : ℕ → Action → List Token
 action_item signo Usual = []
-action_item signo Ignore = begin_object ++ (count_member (codes "signo") signo ++ (word_member (codes "action") (codes "ignore") ++ end_object))
+action_item signo Ignore =
+    begin_object
+    ++ (count_member (codes "signo") signo
+    ++ (word_member (codes "action") (codes "ignore") ++ end_object))
 action_item signo (Catch point mask) =
     begin_object
     ++ (count_member (codes "signo") signo
-    ++ (word_member (codes "action") (codes "catch") ++ (count_member (codes "point") point ++ (set_member (codes "mask") (bits_of mask) ++ end_object))))
+    ++ (word_member (codes "action") (codes "catch")
+    ++ (count_member (codes "point") point
+    ++ (set_member (codes "mask") (bits_of mask) ++ end_object))))
 
 -- the actions, by rising signal
 abbrev pub actions_member : List Action → List Token
-actions_member actions = list_member (codes "actions") (upto (λ signo. action_item signo (slice_index_or actions signo Usual)) SIGNALS)
+actions_member actions =
+    list_member (codes "actions")
+    (upto (λ signo. action_item signo (slice_index_or actions signo Usual)) SIGNALS)
 
 -- an entry of the queue
 abbrev pub entry_item : Queued → List Token
-entry_item entry = begin_object ++ (count_member (codes "signo") entry.signo ++ (number_member (codes "value") entry.value ++ end_object))
+entry_item entry =
+    begin_object
+    ++ (count_member (codes "signo") entry.signo
+    ++ (number_member (codes "value") entry.value ++ end_object))
 
 -- the queue, the first to be taken first
 abbrev pub queued_member : List Queued → List Token
@@ -37,7 +47,8 @@ frame_item frame =
     begin_object
     ++ (count_member (codes "point") frame.registers.point
     ++ (number_member (codes "ret") frame.registers.ret
-    ++ (set_member (codes "mask") frame.mask ++ (numbers_member (codes "slots") frame.registers.slots ++ end_object))))
+    ++ (set_member (codes "mask") frame.mask
+    ++ (numbers_member (codes "slots") frame.registers.slots ++ end_object))))
 
 -- what caught signals saved, the oldest first
 abbrev pub frames_member : List Frame → List Token
@@ -47,4 +58,6 @@ frames_member frames = list_member (codes "frames") (each_tokens frame_item fram
 abbrev pub signals_members : Process → List Token
 signals_members process =
     set_member (codes "mask") process.mask
-    ++ (actions_member process.actions ++ (set_member (codes "pending") process.pending ++ (queued_member process.queued ++ frames_member process.frames)))
+    ++ (actions_member process.actions
+    ++ (set_member (codes "pending") process.pending
+    ++ (queued_member process.queued ++ frames_member process.frames)))

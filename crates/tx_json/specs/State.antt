@@ -15,4 +15,6 @@ parts_tokens width S = procs_member width S.procs ++ (descs_member S.descs ++ pi
 -- a state: its processes, descriptions, pipes and live transactions
 abbrev pub state_tokens : View → List Token
 state_tokens V =
-    begin_object ++ (parts_tokens (present V).width (present V) ++ (txns_member V.table.width V.table.marks (present V).held ++ end_object))
+    begin_object
+    ++ (parts_tokens (present V).width (present V)
+    ++ (txns_member V.table.width V.table.marks (present V).held ++ end_object))

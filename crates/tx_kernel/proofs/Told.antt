@@ -5,8 +5,8 @@ use Rattle.tx_kernel.specs.Plans.{held_after}
 use Rattle.tx_kernel.specs.declared.inside.Inside.{Inside}
 use Rattle.tx_kernel.specs.declared.planned.Sends.TheVariants as sends
 use Rattle.tx_base.specs.declared.names.Sending.{Sending}
-use Rattle.tx_model.specs.Processes.{parent_notice, NotTold, AtOnce, AtCommit, notice_held}
-use Rattle.tx_model.specs.Words.{parent_notice_by}
+use Rattle.tx_model.specs.Processes.{parent_notice, NotTold, AtOnce, notice_held}
+use Rattle.tx_model.specs.Words.{notice_by, parent_notice_by}
 use Rattle.tx_model.specs.State.{State, with_writes}
 
 -- process 1 is not told
@@ -29,7 +29,7 @@ pub tells_member : (inside : Inside) (m : Sending) (parent : ℕ) (S : State) �
 unfolding with_writes
 tells_member inside m parent S other member =
     ap (λ (b : Bool). with_writes (notice_held (if b then NotTold else parent_notice_by (Some (transaction_of inside)) parent) parent S) S) other
-    ∙ ap (λ (b : Bool). with_writes (notice_held (if b then AtOnce else AtCommit inside.starter.0) parent S) S) member
+    ∙ ap (λ (b : Bool). with_writes (notice_held (notice_by (if b then None else Some (transaction_of inside))) parent S) S) member
 
 -- another parent is told at the commit
 pub tells_later : (inside : Inside) (m : Sending) (parent : ℕ) (S : State) → (parent == 1) ≡ false → (transaction_of inside).members parent ≡ false →
@@ -38,5 +38,5 @@ pub tells_later : (inside : Inside) (m : Sending) (parent : ℕ) (S : State) →
 unfolding with_writes
 tells_later inside m parent S other outside is =
     ap (λ (b : Bool). with_writes (notice_held (if b then NotTold else parent_notice_by (Some (transaction_of inside)) parent) parent S) S) other
-    ∙ ap (λ (b : Bool). with_writes (notice_held (if b then AtOnce else AtCommit inside.starter.0) parent S) S) outside
+    ∙ ap (λ (b : Bool). with_writes (notice_held (notice_by (if b then None else Some (transaction_of inside))) parent S) S) outside
     ∙ ap (λ (n : Sending). record S { held = held_after (inside_of (Some inside)) (sends.AtCommit n) S.held }) (sym is)

@@ -33,7 +33,8 @@ abbrev pub CountsHeld : Option Inside → (ℕ → List Sending) → Type 0
 CountsHeld None held = Unit {0}
 CountsHeld (Some inside) held = member_sends (held inside.starter.0) ≡ inside.held
 
--- the counts of names are right, each process has its places, and the state is well formed, as is every state that a history leads to
+-- the counts of names are right, each process has its places, and the state is well formed, as is
+-- every state that a history leads to
 pub record IsWhole (parts : Parts) : Type 0 where
   pub counts : CountsAgree parts
   pub places : HaveAllPlaces parts
@@ -53,7 +54,13 @@ me_of actor = process_of actor.proc.now
 
 -- the process as the caller of the rules, in a state
 abbrev pub caller_of : Actor → State → Caller
-caller_of actor S = record { number = actor.pid.0; process = me_of actor; inside = inside_of actor.inside; state = S }
+caller_of actor S =
+    record {
+      number = actor.pid.0;
+      process = me_of actor;
+      inside = inside_of actor.inside;
+      state = S;
+    }
 
 -- what a rule does for it, and what its call names besides its process
 abbrev pub effect_by : Actor → Rule → State → Effect

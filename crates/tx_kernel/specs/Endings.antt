@@ -27,9 +27,12 @@ plain_with news parts = plain (record parts { descs = put_descs news parts.descs
 abbrev pub takes_out : List NewDesc → Bool
 takes_out news = list_any (λ new. is_none new.opened) news
 
--- once these are in place, each description is as it was, except for the count of its names, or is gone
+-- once these are in place, each description is as it was, except for the count of its names, or is
+-- gone
 pub record OnlyRemoves (news : List NewDesc) (descs : List (Option Opened)) : Type 0 where
-  pub each : (d : ℕ) → (description_at (put_descs news descs) d ≡ description_at descs d) ⊎ (description_at (put_descs news descs) d ≡ None)
+  pub each : (d : ℕ)
+      → (description_at (put_descs news descs) d ≡ description_at descs d)
+      ⊎ (description_at (put_descs news descs) d ≡ None)
 
 -- the changes that give the processes parent 1
 abbrev pub orphan_changes : List ℕ → List Change
@@ -53,7 +56,10 @@ pipe_through descs (Some d) = pipe_in (slice_index_or descs d None)
 -- the changes that take out those of the pipes that no description names
 unfoldable pub gone_changes : List ℕ → State → List Change
 gone_changes [] S = []
-gone_changes (k ∷ ks) S = if has_description k S then gone_changes ks S else Pipe (record { 0 = k }) (Whole None) ∷ gone_changes ks S
+gone_changes (k ∷ ks) S =
+    if has_description k S
+    then gone_changes ks S
+    else Pipe (record { 0 = k }) (Whole None) ∷ gone_changes ks S
 
 -- the change that takes out the pipe, if there is one, that no description names
 abbrev pub gone_at : Option PipeNo → State → List Change

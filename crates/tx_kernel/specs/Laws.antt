@@ -40,9 +40,14 @@ pub record PlanLaws : Type 0 where
 
 -- parts as at boot are whole
 abbrev pub BootedAreWhole : Type 0
-BootedAreWhole = (width count : ℕ) (parts : Parts) → 1 ≤ count → count ≤ width → width ≤ 256 → state_of (λ starter. []) parts ≡ boot_state width count → HaveAllPlaces parts → CountsAgree parts →
+BootedAreWhole =
+    (width count : ℕ) (parts : Parts) → 1 ≤ count → count ≤ width → width ≤ 256
+    → state_of (λ starter. []) parts ≡ boot_state width count → HaveAllPlaces parts
+    → CountsAgree parts →
     IsWhole parts
 
 -- a call other than a kill, a sigqueue, an exit and a write sends nothing
 abbrev pub QuietCallsSendNothing : Type 0
-QuietCallsSendNothing = (inside : Option Inside) (p : ℕ) (called : Call) (me : Process) (S : State) → sends_nothing called ≡ true → (call_effect inside p called me S).sends ≡ []
+QuietCallsSendNothing =
+    (inside : Option Inside) (p : ℕ) (called : Call) (me : Process) (S : State)
+    → sends_nothing called ≡ true → (call_effect inside p called me S).sends ≡ []

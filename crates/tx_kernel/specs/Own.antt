@@ -26,20 +26,29 @@ abbrev pub answer_after : ℤ → Actor → Answer
 answer_after ret actor = record { point = next_point actor.proc.now.regs.point; ret = ret }
 
 -- a log that now ends in changes of parts of the process that make this of it
-pub record PlansPart (actor : Actor) (before now : List Change) (rule : Process → Process) : Type 0 where
+pub record PlansPart (actor : Actor) (before now : List Change) (rule : Process → Process)
+    : Type 0 where
   pub plan : List Change
   pub added : now ≡ before ++ plan
   pub own : AreOf actor.pid.0 plan
   pub nameless : AreNameless plan
   pub process : revised_by plan (me_of actor) ≡ rule (me_of actor)
 
--- a log that now ends in changes of only parts of the process: in every state the rule makes of it what they do, and has that answer
-pub record PlansOwn (actor : Actor) (before now : List Change) (outcome : Outcome) (rule : State → Effect) : Type 0 where
+-- a log that now ends in changes of only parts of the process: in every state the rule makes of it
+-- what they do, and has that answer
+pub record PlansOwn (actor : Actor) (before now : List Change) (outcome : Outcome)
+    (rule : State → Effect) : Type 0 where
   pub plan : List Change
   pub added : now ≡ before ++ plan
   pub own : AreOf actor.pid.0 plan
   pub nameless : AreNameless plan
-  pub effect : (S : State) → rule S ≡ own_effect actor.pid.0 (record { process = revised_by plan (me_of actor); reply = reply_of (me_of actor).memory outcome })
+  pub effect : (S : State)
+      → rule S
+      ≡ own_effect actor.pid.0
+      (record {
+        process = revised_by plan (me_of actor);
+        reply = reply_of (me_of actor).memory outcome;
+      })
   pub shown : KeepsShown outcome (me_of actor).memory (revised_by plan (me_of actor)).memory
 
 -- the actor's call comes to the same by this page as by that rule

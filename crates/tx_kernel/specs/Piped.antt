@@ -42,7 +42,8 @@ opened_at descs (Some d) = slice_index_or descs d None
 -- the description, if it is of the side
 abbrev pub end_at : Side → Option Opened → Result Desc Errno
 end_at side None = Err BadDescriptor
-end_at side (Some opened) = if side_test side (end_for opened.desc.side) then Ok opened.desc else Err BadDescriptor
+end_at side (Some opened) =
+    if side_test side (end_for opened.desc.side) then Ok opened.desc else Err BadDescriptor
 
 -- the bytes of a pipe
 abbrev pub held_in : Actor → PipeNo → List ℕ
@@ -59,7 +60,12 @@ writing_outcome address (Ok writing.Nothing) c = answers (pos 0)
 writing_outcome address (Ok writing.Breaks) c = does (broken_pipe c.number c.process)
 writing_outcome address (Ok writing.Waits) c = refuses Wait
 writing_outcome address (Ok (writing.Puts pipe n)) c =
-    changes (pos n) c.process (SetPipe pipe.0 (Some (bytes_in (c.state.pipes pipe.0) ++ bytes_at c.process.memory (address_of address) n)) ∷ [])
+    changes (pos n) c.process
+    (SetPipe pipe.0
+    (Some
+    (bytes_in (c.state.pipes pipe.0)
+    ++ bytes_at c.process.memory (address_of address) n))
+    ∷ [])
 
 -- the bytes that a write puts are there, and there is room for them in the pipe
 pub record CanPut (actor : Actor) (address : ℤ) (pipe : PipeNo) (n : ℕ) : Type 0 where
@@ -92,9 +98,14 @@ PutsTo actor x address (writing.Puts to n) = NamesPipe actor x to × CanPut acto
 abbrev pub IsPutting : Actor → Desc → ℕ → Result Writing Errno → Type 0
 IsPutting actor desc n (Ok writing.Nothing) = ⊥
 IsPutting actor desc n (Ok writing.Breaks) = ⊥
-IsPutting actor desc n (Ok writing.Waits) = (nat_lt PIPE_BYTES (length (held_in actor desc.pipe) + n) ≡ true) × (desc.nonblock ≡ false)
-IsPutting actor desc n (Ok (writing.Puts to m)) = (nat_lt PIPE_BYTES (length (held_in actor desc.pipe) + n) ≡ false) × (to ≡ desc.pipe) × (m ≡ n)
-IsPutting actor desc n (Err errno) = (errno ≡ TryAgain) × (nat_lt PIPE_BYTES (length (held_in actor desc.pipe) + n) ≡ true) × (desc.nonblock ≡ true)
+IsPutting actor desc n (Ok writing.Waits) =
+    (nat_lt PIPE_BYTES (length (held_in actor desc.pipe) + n) ≡ true) × (desc.nonblock ≡ false)
+IsPutting actor desc n (Ok (writing.Puts to m)) =
+    (nat_lt PIPE_BYTES (length (held_in actor desc.pipe) + n) ≡ false) × (to ≡ desc.pipe) × (m ≡ n)
+IsPutting actor desc n (Err errno) =
+    (errno ≡ TryAgain)
+    × (nat_lt PIPE_BYTES (length (held_in actor desc.pipe) + n) ≡ true)
+    × (desc.nonblock ≡ true)
 
 -- the bytes that a write puts
 abbrev pub put_bytes : Actor → ℤ → ℕ → List ℕ
@@ -106,7 +117,8 @@ broken_sending actor = record { target = actor.pid; signo = SIGPIPE; value = pos
 
 -- a write without a reader
 abbrev pub broken : Actor → Planned
-broken actor = record { outcome = Done (error_answer BrokenPipe); sends = AtOnce (broken_sending actor) }
+broken actor =
+    record { outcome = Done (error_answer BrokenPipe); sends = AtOnce (broken_sending actor) }
 
 -- what a read comes to
 abbrev pub reading_outcome : ℤ → Result Reading Errno → Rule
@@ -115,10 +127,15 @@ reading_outcome address (Ok reading.Nothing) c = answers (pos 0)
 reading_outcome address (Ok reading.Waits) c = refuses Wait
 reading_outcome address (Ok (reading.Takes pipe n)) c =
     let held = bytes_in (c.state.pipes pipe.0) in
-    changes (pos n) (record c.process { memory = stored_memory c.process.memory (address_of address) (take n held) }) (SetPipe pipe.0 (Some (drop n held)) ∷ [])
+    changes (pos n)
+    (record c.process {
+      memory = stored_memory c.process.memory (address_of address) (take n held);
+    }) (SetPipe pipe.0 (Some (drop n held)) ∷ [])
 
--- a read from such a descriptor is one from the description, of this many bytes that may be put at the address
-pub record AsksFor (actor : Actor) (desc : Desc) (n : ℕ) (fd address count : ℤ) (held : ℕ → List TheSending) : Type 0 where
+-- a read from such a descriptor is one from the description, of this many bytes that may be put at
+-- the address
+pub record AsksFor (actor : Actor) (desc : Desc) (n : ℕ) (fd address count : ℤ)
+    (held : ℕ → List TheSending) : Type 0 where
   pub end : end_in is_read_side fd (calling actor held) ≡ Some (description_of desc)
   pub number : below 513 count ≡ Some n
   pub some : n ≢ 0
@@ -142,8 +159,11 @@ TakesFrom actor x reading.Waits = Unit {0}
 TakesFrom actor x (reading.Takes from n) = NamesPipe actor x from × CanTake actor from n
 
 -- a log that now ends in taking bytes from the pipe, and in the pages with these bytes
-pub record TakesBytes (actor : Actor) (before now : List Change) (pipe : PipeNo) (address : ℤ) (n : ℕ) : Type 0 where
+pub record TakesBytes (actor : Actor) (before now : List Change) (pipe : PipeNo) (address : ℤ)
+    (n : ℕ) : Type 0 where
   pub pages : List NewPage
   pub numbered : AreNumbered pages
-  pub memory : with_pages (me_of actor).memory pages ≡ stored_memory (me_of actor).memory (address_of address) (take n (held_in actor pipe))
+  pub memory :
+      with_pages (me_of actor).memory pages
+      ≡ stored_memory (me_of actor).memory (address_of address) (take n (held_in actor pipe))
   pub added : now ≡ before ++ Pipe pipe (Front n []) ∷ map (page_change actor.pid) pages

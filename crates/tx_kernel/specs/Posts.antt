@@ -48,7 +48,13 @@ IsOfPending (Some part) = ⊥
 
 -- a process with the ids, the status and the pending signals of this one: what a post sees of it
 abbrev pub seen_as : Proc → Process → Process
-seen_as proc me = record me { ids = ids_of proc.cred; status = proc.status; pending = proc.pending.standard; queued = proc.pending.queued }
+seen_as proc me =
+    record me {
+      ids = ids_of proc.cred;
+      status = proc.status;
+      pending = proc.pending.standard;
+      queued = proc.pending.queued;
+    }
 
 -- a post sees the process that the slot has
 abbrev pub IsSeen : Option Proc → Option Process → Type 0
@@ -57,23 +63,30 @@ IsSeen None (Some q) = ⊥
 IsSeen (Some proc) None = ⊥
 IsSeen (Some proc) (Some q) = q ≡ seen_as proc q
 
--- a log that now ends in the exchanges of a post: of its target, if seen as this, they make what the posting rule makes
-pub record PlansPost (parts : Parts) (before now : List Change) (m : Sending) (answer : Result (Unit {0}) Errno) : Type 0 where
+-- a log that now ends in the exchanges of a post: of its target, if seen as this, they make what
+-- the posting rule makes
+pub record PlansPost (parts : Parts) (before now : List Change) (m : Sending)
+    (answer : Result (Unit {0}) Errno) : Type 0 where
   pub plan : List Change
   pub added : now ≡ before ++ plan
   pub own : AreOf m.target plan
   pub nameless : AreNameless plan
   pub named : AreNamed parts plan
-  pub answers : (q : Option Process) → IsSeen (slot_at parts.procs m.target) q → answer_of answer ≡ post_answer m q
-  pub receives : (q : Option Process) → IsSeen (slot_at parts.procs m.target) q → option_map (revised_by plan) q ≡ target_after m q
+  pub answers : (q : Option Process) → IsSeen (slot_at parts.procs m.target) q
+      → answer_of answer ≡ post_answer m q
+  pub receives : (q : Option Process) → IsSeen (slot_at parts.procs m.target) q
+      → option_map (revised_by plan) q ≡ target_after m q
 
--- what a post to the process of a number exchanges: the answer and the process after it are the posting rule's, for each process that is seen as the one
--- there
-pub record PlansAt (parts : Parts) (m : Sending) (result : Result (Option Part) Errno) : Type 0 where
+-- what a post to the process of a number exchanges: the answer and the process after it are the
+-- posting rule's, for each process that is seen as the one there
+pub record PlansAt (parts : Parts) (m : Sending) (result : Result (Option Part) Errno)
+    : Type 0 where
   pub pending : IfOk result IsOfPending
   pub there : IfOk result (λ part. IsSome part → IsPid (sizes_of parts) m.target)
-  pub answers : (q : Option Process) → IsSeen (slot_at parts.procs m.target) q → answer_of (without_part result) ≡ post_answer m q
-  pub receives : (q : Option Process) → IsSeen (slot_at parts.procs m.target) q → option_map (posted result) q ≡ target_after m q
+  pub answers : (q : Option Process) → IsSeen (slot_at parts.procs m.target) q
+      → answer_of (without_part result) ≡ post_answer m q
+  pub receives : (q : Option Process) → IsSeen (slot_at parts.procs m.target) q
+      → option_map (posted result) q ≡ target_after m q
 
 -- a change, if there is one
 abbrev pub listed_change : Option Change → List Change
@@ -83,6 +96,8 @@ listed_change (Some change) = change ∷ []
 -- the parts are the same except what is pending at processes
 pub record IsButPending (before after : Parts) : Type 0 where
   pub width : length after.procs ≡ length before.procs
-  pub each : (n : ℕ) → (pending : PendingView) × (slot_at after.procs n ≡ option_map (with_pending pending) (slot_at before.procs n))
+  pub each : (n : ℕ)
+      → (pending : PendingView)
+      × (slot_at after.procs n ≡ option_map (with_pending pending) (slot_at before.procs n))
   pub descs : after.descs ≡ before.descs
   pub pipes : after.pipes ≡ before.pipes

@@ -17,12 +17,17 @@ IsMade f = (rs : List ℤ) → IsAccepted (concluding_reply f.conclusion f.sends
 
 -- why the numbers that a call chooses are refused: the first reason
 abbrev pub number_refusal : ℕ → State → Choice → Option Refusal
-number_refusal width S choice = if is_bad_choice width choice then Some BadNumber else (if is_choice_in_use S choice then Some NumberTaken else None)
+number_refusal width S choice =
+    if is_bad_choice width choice
+    then Some BadNumber
+    else (if is_choice_in_use S choice then Some NumberTaken else None)
 
 -- whether the step waits by its rule: if not, the step is made
 pub record TellsWait (actor : Actor) (waits : Bool) (rule : State → Effect) : Type 0 where
-  pub refused : waits ≡ true → (held : ℕ → List Sending) → CountsHeld actor.inside held → rule (state_of held actor.parts.now) ≡ idle Wait
-  pub made : waits ≡ false → (held : ℕ → List Sending) → CountsHeld actor.inside held → IsMade (rule (state_of held actor.parts.now))
+  pub refused : waits ≡ true → (held : ℕ → List Sending) → CountsHeld actor.inside held
+      → rule (state_of held actor.parts.now) ≡ idle Wait
+  pub made : waits ≡ false → (held : ℕ → List Sending) → CountsHeld actor.inside held
+      → IsMade (rule (state_of held actor.parts.now))
 
 -- whether a signal would be caught while four caught ones are unfinished
 abbrev pub lacks_frame : Disposition → Process → Bool

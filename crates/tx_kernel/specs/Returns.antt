@@ -6,8 +6,14 @@ use Rattle.tx_kernel.specs.declared.actor.Actor.{Actor}
 use Rattle.tx_model.specs.State.{Process}
 
 abbrev pub with_slots : List ℤ → Process → Process
-with_slots slots me = record me { registers = record { point = me.registers.point; ret = me.registers.ret; slots = slots } }
+with_slots slots me =
+    record me {
+      registers = record { point = me.registers.point; ret = me.registers.ret; slots = slots };
+    }
 
 -- the first of these slots, this many, are in place
-pub record SlotsPut (actor : Actor) (before now : List Change) (slots : List ℤ) (count : ℕ) : Type 0 where
-  pub plan : PlansPart actor before now (λ me. with_slots (take count slots ++ drop count me.registers.slots) me)
+pub record SlotsPut (actor : Actor) (before now : List Change) (slots : List ℤ) (count : ℕ)
+    : Type 0 where
+  pub plan :
+      PlansPart actor before now
+      (λ me. with_slots (take count slots ++ drop count me.registers.slots) me)

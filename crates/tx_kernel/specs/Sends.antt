@@ -42,14 +42,21 @@ sends_by (Answers ret) = Nothing
 sends_by (Posts m) = AtOnce m
 sends_by (Holds m) = AtCommit m
 
--- the signal is what the rule sends: what is posted with it, and what the transactions hold once it has written
+-- the signal is what the rule sends: what is posted with it, and what the transactions hold once it
+-- has written
 pub record IsSentBy (actor : Actor) (sends : Sends) (rule : State → Effect) : Type 0 where
-  pub at_once : (held : ℕ → List TheSending) → CountsHeld actor.inside held → (rule (state_of held actor.parts.now)).sends ≡ sent_at_once sends
+  pub at_once : (held : ℕ → List TheSending) → CountsHeld actor.inside held
+      → (rule (state_of held actor.parts.now)).sends ≡ sent_at_once sends
   pub handed_out : (held : ℕ → List TheSending) → CountsHeld actor.inside held →
-      (before_sends (rule (state_of held actor.parts.now)) (state_of held actor.parts.now)).held ≡ held_after (inside_of actor.inside) sends held
+      (before_sends (rule (state_of held actor.parts.now)) (state_of held actor.parts.now)).held
+      ≡ held_after (inside_of actor.inside) sends held
 
--- a log that now ends in a post, with its answer as that of the process: for every rule that posts this
-pub record PlansPosted (actor : Actor) (before now : List Change) (m : Sending) (outcome : Outcome) : Type 0 where
+-- a log that now ends in a post, with its answer as that of the process: for every rule that posts
+-- this
+pub record PlansPosted (actor : Actor) (before now : List Change) (m : Sending) (outcome : Outcome)
+    : Type 0 where
   pub plans : (rule : State → Effect) (objects : State → List Object) →
-      ((held : ℕ → List TheSending) → CountsHeld actor.inside held → rule (state_of held actor.parts.now) ≡ effect_by actor (sent (Posts m)) (state_of held actor.parts.now)) →
+      ((held : ℕ → List TheSending) → CountsHeld actor.inside held
+      → rule (state_of held actor.parts.now)
+      ≡ effect_by actor (sent (Posts m)) (state_of held actor.parts.now)) →
       PlansStep actor before now outcome (AtOnce m) rule objects

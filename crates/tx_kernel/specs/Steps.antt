@@ -25,20 +25,31 @@ target_objects Nothing = []
 target_objects (AtOnce m) = Proc m.target.0 ∷ []
 target_objects (AtCommit m) = []
 
--- these parts, and what else a step of the process comes to, are the effect's with its post made; bytes are shown of its memory then
-pub record GivesStep (inside : Option Inside) (pid : Pid) (before after : Parts) (outcome : Outcome) (sends : Sends) (held : ℕ → List Sending) (effect : Effect) : Type 0 where
-  pub state : after_effect effect (send_answers effect (state_of held before)) (state_of held before) ≡ state_of (held_after (inside_of inside) sends held) after
+-- these parts, and what else a step of the process comes to, are the effect's with its post made;
+-- bytes are shown of its memory then
+pub record GivesStep (inside : Option Inside) (pid : Pid) (before after : Parts) (outcome : Outcome)
+    (sends : Sends) (held : ℕ → List Sending) (effect : Effect) : Type 0 where
+  pub state :
+      after_effect effect (send_answers effect (state_of held before)) (state_of held before)
+      ≡ state_of (held_after (inside_of inside) sends held) after
   pub sent : effect.sends ≡ sent_at_once sends
-  pub reply : concluding_reply effect.conclusion effect.sends (send_answers effect (state_of held before)) ≡ reply_of (memory_in (process_in (slot_at after.procs pid.0))) outcome
+  pub reply :
+      concluding_reply effect.conclusion effect.sends (send_answers effect (state_of held before))
+      ≡ reply_of (memory_in (process_in (slot_at after.procs pid.0))) outcome
 
 -- a log that now ends in a plan of a whole step
-pub record PlansStep (actor : Actor) (before now : List Change) (outcome : Outcome) (sends : Sends) (rule : State → Effect) (objects : State → List Object) : Type 0 where
+pub record PlansStep (actor : Actor) (before now : List Change) (outcome : Outcome) (sends : Sends)
+    (rule : State → Effect) (objects : State → List Object) : Type 0 where
   pub plan : List Change
   pub added : now ≡ before ++ plan
   pub named : AreNamed actor.parts.now plan
   pub counts : CountsAgree (exchanged_in actor.parts.now plan)
   pub brings : BringPlaces plan
   pub gives : (held : ℕ → List Sending) → CountsHeld actor.inside held →
-      GivesStep actor.inside actor.pid actor.parts.now (exchanged_in actor.parts.now plan) outcome sends held (rule (state_of held actor.parts.now))
+      GivesStep actor.inside actor.pid actor.parts.now (exchanged_in actor.parts.now plan) outcome
+      sends held (rule (state_of held actor.parts.now))
   pub signal : HasSignal sends
-  pub among : (held : ℕ → List Sending) → AreAmong (Proc actor.pid.0 ∷ objects (state_of held actor.parts.now) ++ target_objects sends) plan
+  pub among : (held : ℕ → List Sending)
+      → AreAmong
+      (Proc actor.pid.0 ∷ objects (state_of held actor.parts.now) ++ target_objects sends)
+      plan

@@ -9,7 +9,10 @@ use Rattle.tx_proc.specs.declared.proc.Proc.{Proc}
 -- the process as a child of process p, if that is its parent
 abbrev pub child_by : ℕ → ℕ → Option Proc → Option Child
 child_by p t None = None
-child_by p t (Some proc) = if proc.parent.0 == p then Some (record { pid = record { 0 = t }; status = proc.status }) else None
+child_by p t (Some proc) =
+    if proc.parent.0 == p
+    then Some (record { pid = record { 0 = t }; status = proc.status })
+    else None
 
 -- the child of process p of a number that may be one
 abbrev pub child_at : ℕ → List (Option Proc) → Option ℕ → Option Child

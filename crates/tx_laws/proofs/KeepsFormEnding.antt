@@ -8,8 +8,8 @@ use Rattle.tx_model.specs.Forms.{effect_of, caller}
 use Rattle.tx_model.specs.Book.{exit}
 use Rattle.tx_model.specs.BookLaws.{exit_lines}
 use Rattle.tx_model.specs.Descriptors.{open_in, pipes_of, removals, desc_objects, desc_pipe_objects}
-use Rattle.tx_model.specs.Words.{pipe_list}
-use Rattle.tx_model.specs.Processes.{ended_process, children_below, children_of, with_parent, orphan_writes, child_notice, ending, exit_status, parent_notice, notice_held, NotTold, AtOnce, AtCommit}
+use Rattle.tx_model.specs.Words.{notice_by, pipe_list}
+use Rattle.tx_model.specs.Processes.{ended_process, children_below, children_of, with_parent, orphan_writes, child_notice, ending, exit_status, parent_notice, notice_held, NotTold, AtOnce}
 use Rattle.tx_model.specs.Answer.{is_running}
 use Rattle.tx_model.specs.StateLaws.{put_here, put_cases, put_there, AgreeAt}
 use Rattle.tx_laws.specs.WellFormed.{HasSizes, IsPlaced}
@@ -283,7 +283,7 @@ module _ (S : State) (p status : ℕ) (me now : Process) (e : S.procs p ≡ Some
       by false = k
   later_form (Some inside) T V k = by (now.parent == 1) (inside.members now.parent)
     where
-      by : (b c : Bool) → IsArranged (with_writes (notice_held (if b then NotTold else (if c then AtOnce else AtCommit inside.starter)) now.parent T) V)
+      by : (b c : Bool) → IsArranged (with_writes (notice_held (if b then NotTold else (notice_by (if c then None else Some inside))) now.parent T) V)
       by true c = k
       by false true = k
       by false false = held_form V inside.starter (T.held inside.starter ++ child_notice now.parent ∷ []) k

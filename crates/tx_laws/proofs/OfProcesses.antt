@@ -11,8 +11,8 @@ use Rattle.tx_model.specs.StateLaws.{AgreeAt, AgreeOn}
 use Rattle.tx_model.specs.Effects.{Inside, Replies, with_answer}
 use Rattle.tx_laws.specs.Fits.{IsIn}
 use Rattle.tx_model.specs.Descriptors.{open_in, pipes_of, removals, desc_objects, desc_pipe_objects}
-use Rattle.tx_model.specs.Processes.{ended_process, children_below, children_of, with_parent, orphan_writes, child_notice, NotTold, AtOnce, AtCommit, parent_notice, notice_now, notice_held, ending, held_objects, ending_objects, exit_status, pid_of, procs_of}
-use Rattle.tx_model.specs.Words.{exit_objects, numbered_objects, fork_objects, waitpid_objects, pipe_list, with_status}
+use Rattle.tx_model.specs.Processes.{ended_process, children_below, children_of, with_parent, orphan_writes, child_notice, NotTold, AtOnce, parent_notice, notice_now, notice_held, ending, held_objects, ending_objects, exit_status, pid_of, procs_of}
+use Rattle.tx_model.specs.Words.{notice_by, exit_objects, numbered_objects, fork_objects, waitpid_objects, pipe_list, with_status}
 use Rattle.tx_model.specs.Forms.{fails, refuses, does, effect_of, ◌when◌, caller}
 use Rattle.tx_model.specs.Book.{fork, exit, waitpid}
 use Rattle.tx_model.specs.BookLaws.{fork_lines, waitpid_lines}
@@ -166,8 +166,8 @@ later_same None parent S R a = by (parent == 1)
     by false = refl
 later_same (Some inside) parent S R a = by (parent == 1) (inside.members parent)
   where
-    by : (b d : Bool) → notice_held (if b then NotTold else (if d then AtOnce else AtCommit inside.starter)) parent S
-        ≡ notice_held (if b then NotTold else (if d then AtOnce else AtCommit inside.starter)) parent R
+    by : (b d : Bool) → notice_held (if b then NotTold else (notice_by (if d then None else Some inside))) parent S
+        ≡ notice_held (if b then NotTold else (notice_by (if d then None else Some inside))) parent R
     by true d = refl
     by false true = refl
     by false false = ap (λ (ms : List Sending). SetHeld inside.starter (ms ++ child_notice parent ∷ []) ∷ []) (a (Held inside.starter) (has_head (Held inside.starter) [])).equal
@@ -180,7 +180,7 @@ later_fits None parent S all c = by (parent == 1)
     by false = tt
 later_fits (Some inside) parent S all c = by (parent == 1) (inside.members parent)
   where
-    by : (b d : Bool) → WritesFit S all (notice_held (if b then NotTold else (if d then AtOnce else AtCommit inside.starter)) parent S)
+    by : (b d : Bool) → WritesFit S all (notice_held (if b then NotTold else (notice_by (if d then None else Some inside))) parent S)
     by true d = tt
     by false true = tt
     by false false = (covers_head all (Held inside.starter) [] c, tt)
@@ -188,7 +188,7 @@ later_fits (Some inside) parent S all c = by (parent == 1) (inside.members paren
 tells_members : (i : Inside) (parent : ℕ) (m : Sending) → IsIn m (notice_now (parent_notice (Some i) parent) parent) → i.members m.target ≡ true
 tells_members i parent m h = by (parent == 1) (i.members parent) refl h
   where
-    by : (b d : Bool) → i.members parent ≡ d → IsIn m (notice_now (if b then NotTold else (if d then AtOnce else AtCommit i.starter)) parent) → i.members m.target ≡ true
+    by : (b d : Bool) → i.members parent ≡ d → IsIn m (notice_now (if b then NotTold else (notice_by (if d then None else Some i))) parent) → i.members m.target ≡ true
     by true d e k = absurd k
     by false true e (inl k) = subst (λ (x : Sending). i.members x.target ≡ true) (sym k) e
     by false true e (inr k) = absurd k

@@ -6,8 +6,8 @@ use Rattle.tx_model.specs.ObjectFacts.{has_head, has_tail}
 use Rattle.tx_model.specs.State.{Process, State, Sending, Object, Proc, Held, has_object}
 use Rattle.tx_model.specs.StateLaws.{AgreeOn}
 use Rattle.tx_model.specs.Effects.{Inside, with_answer}
-use Rattle.tx_model.specs.Book.{closed_inside, sendable, sending_from, holder_of, sigqueue}
-use Rattle.tx_model.specs.Processes.{pid_of, held_objects}
+use Rattle.tx_model.specs.Book.{closed_inside, sendable, sending_from, sigqueue}
+use Rattle.tx_model.specs.Processes.{holder_of, pid_of, held_objects}
 use Rattle.tx_model.specs.Forms.{fails, posts, effect_of, caller}
 use Rattle.tx_laws.specs.Fits.{IsIn}
 use Rattle.tx_model.specs.BookLaws.{sigqueue_lines}

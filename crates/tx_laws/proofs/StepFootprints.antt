@@ -1,14 +1,14 @@
 -- The footprint of a step has what its event names, and the targets of its posts.
-use Rattle.std.proofs.Common.{◌≡◌, ℕ, Bool, true, false, not, List, [], ◌∷◌, ◌++◌, ℤ, pos, negsuc, Option, Some, None, if◌then◌else◌, ◌==◌, refl, sym, ap, ap₂, ◌∙◌, subst, inl, inr, eq-eqb, append_assoc, append-nil, nat_lt, is_some}
+use Rattle.std.proofs.Common.{◌≡◌, ℕ, Bool, true, false, List, [], ◌∷◌, ◌++◌, ℤ, pos, negsuc, Option, Some, None, if◌then◌else◌, ◌==◌, refl, sym, ap, ap₂, ◌∙◌, subst, inl, inr, eq-eqb, append_assoc, append-nil, nat_lt, is_some}
 use Rattle.tx_base.specs.declared.steps.Call.TheVariants as call
 use Rattle.tx_base.specs.declared.limits.TheConstants.{HELD_SENDS}
 use Rattle.tx_model.specs.Forms.{posts, fails, does, effect_of, ◌when◌, caller}
-use Rattle.tx_model.specs.Book.{exit, holder_of, sigqueue, member_sends, sending_from, sendable, closed_inside, page_of_call}
+use Rattle.tx_model.specs.Book.{exit, sigqueue, member_sends, sending_from, sendable, closed_inside, page_of_call}
 use Rattle.tx_model.specs.State.{State, Sending, Object, Proc, Desc, Pipe, Held, SetProc, with_writes, has_object, same_object, write_one, SetDesc, SetPipe, Process, Write}
 use Rattle.tx_model.specs.Effects.{Inside, idle, concluding_reply, Conclusion, Effect, Replies, AnswersPost, ListsFailed, send_answers}
-use Rattle.tx_model.specs.Words.{exit_objects, member_end_role, kind_of, delivery_effect, delivery_objects, call_effect, call_objects, parent_notice_by, kind_role}
+use Rattle.tx_model.specs.Words.{notice_by, exit_objects, member_end_role, kind_of, delivery_effect, delivery_objects, call_effect, call_objects, parent_notice_by, kind_role}
 use Rattle.tx_model.specs.Descriptors.{removals, is_named, has_description, pipes_of, description_removals, pipe_removals, open_in, desc_pipe_objects}
-use Rattle.tx_model.specs.Processes.{orphan_writes, NotTold, AtOnce, AtCommit, parent_notice, notice_now, held_objects, with_parent, ended_process, children_of, child_notice, notice_held, ending, ending_objects, exit_status, pid_of, procs_of}
+use Rattle.tx_model.specs.Processes.{holder_of, orphan_writes, NotTold, parent_notice, notice_now, held_objects, with_parent, ended_process, children_of, child_notice, notice_held, ending, ending_objects, exit_status, pid_of, procs_of}
 use Rattle.tx_model.specs.Events.{Event, Commit, effect, objects, actor, process_of, reply_of, Do, Note}
 use Rattle.tx_model.specs.Membership.{Table, inside_by, says_ended, event_in, Ordinary, Leaving, others_open, is_member_of, Aborting, Beginning, Forking, Kind, kind_event}
 use Rattle.tx_model.specs.History.{is_other_starter, targets, event_footprint}
@@ -158,8 +158,8 @@ parent_same t p parent = by (parent == 1) (inside_by t (t.marks p))
     by false None = refl
     by false (Some i) = member (i.members parent)
       where
-        member : (d : Bool) → (if not d then [] else (if is_other_starter t p parent then [] else Proc parent ∷ []))
-            ≡ targets t p (notice_now (if d then AtOnce else AtCommit i.starter) parent)
+        member : (d : Bool) → (if is_some (if d then None else Some i) then [] else (if is_other_starter t p parent then [] else Proc parent ∷ []))
+            ≡ targets t p (notice_now (notice_by (if d then None else Some i)) parent)
         member true = refl
         member false = refl
 
@@ -195,8 +195,8 @@ module _ (t : Table) (o : Object) (shared : is_shared o ≡ true) (S : State) (p
   told_held i true R h = ap (λ (f : ℕ → List Sending). f i.starter) h ∙ sym (append-nil (S.held i.starter))
   told_held i false R h = by (i.members now.parent)
     where
-      by : (d : Bool) → (with_writes (notice_held (if d then AtOnce else AtCommit i.starter) now.parent S) R).held i.starter
-          ≡ S.held i.starter ++ (if not d then child_notice now.parent ∷ [] else [])
+      by : (d : Bool) → (with_writes (notice_held (notice_by (if d then None else Some i)) now.parent S) R).held i.starter
+          ≡ S.held i.starter ++ (if is_some (if d then None else Some i) then child_notice now.parent ∷ [] else [])
       by true = ap (λ (f : ℕ → List Sending). f i.starter) h ∙ sym (append-nil (S.held i.starter))
       by false = rw (eq-eqb i.starter i.starter refl) refl
 
@@ -254,15 +254,6 @@ module _ (t : Table) (o : Object) (shared : is_shared o ≡ true) (S : State) (p
       by true c = refl
       by false c = refl
 
-  -- what is held names nothing
-  later_row : (target : ℕ) (x : Option Inside) → (if is_for_later x target then [] else post_row target) ≡ (if is_some (holder_of target x) then [] else post_row target)
-  later_row target None = refl
-  later_row target (Some i) = by (i.members target)
-    where
-      by : (b : Bool) → (if not b then [] else post_row target) ≡ (if is_some (if b then None else Some i) then [] else post_row target)
-      by true = refl
-      by false = refl
-
   send_plain : (n s value : ℤ) → IsPlain (effect_of p me (sigqueue n s value (caller inside p me S))) (held_objects inside) (send_row t p (pid_of S.width n) (sendable s))
   unfolding inside
   send_plain n s value = by (sendable s) (pid_of S.width n) refl refl
@@ -280,9 +271,7 @@ module _ (t : Table) (o : Object) (shared : is_shared o ≡ true) (S : State) (p
       by None None e k = rw e (held_mild _ (done_mild p (error_answer InvalidArgument) me))
       by None (Some target) e k = rw e (held_mild _ (done_mild p (error_answer InvalidArgument) me))
       by (Some signo) None e k = rw (e, k) (held_mild _ (done_mild p (error_answer NoSuchProcess) me))
-      by (Some signo) (Some target) e k =
-          subst (λ (row : List Object). IsPlain (effect_of p me (sigqueue n s value (caller inside p me S))) (held_objects inside) row) (sym (later_row target inside))
-          (out signo target e k (holder_of target inside) refl)
+      by (Some signo) (Some target) e k = out signo target e k (holder_of target inside) refl
 
   -- what is so of a call, by what it may come to: it is plain, or it ends its process
   data Comes (f : Effect) (os row : List Object) : Type 0 where

@@ -16,7 +16,7 @@ use Rattle.tx_model.specs.Numbers.{error_answer}
 use Rattle.tx_model.specs.State.{Process, State, Sending, Write, SetProc, SetDesc, SetPipe, SetHeld, put_at, write_one, with_writes, has_parent}
 use Rattle.tx_model.specs.StateLaws.{put_here, put_cases, put_there}
 use Rattle.tx_model.specs.Effects.{Inside, Effect, Replies, idle, with_answer}
-use Rattle.tx_model.specs.Words.{own_effect, call_effect, delivery_effect, with_status}
+use Rattle.tx_model.specs.Words.{notice_by, own_effect, call_effect, delivery_effect, with_status}
 use Rattle.tx_model.specs.Descriptors.{open_in, removals}
 use Rattle.tx_model.specs.Processes.{child_of, ended_process, children_below, children_of, with_parent, orphan_writes, child_notice, Notice, NotTold, AtOnce, AtCommit, parent_notice, notice_now, notice_held, ending, exit_status}
 use Rattle.tx_model.specs.Deliveries.{without_delivered, at_catch_point, killed_status, delivery_page}
@@ -183,7 +183,7 @@ told_by None parent S U same = by (parent == 1)
 told_by (Some i) parent S U same = by (parent == 1) refl (i.members parent) refl
   where
     by : (a : Bool) → (parent == 1) ≡ a → (b : Bool) → i.members parent ≡ b
-        → Told (Some i) parent S (with_writes (notice_held (if a then NotTold else (if b then AtOnce else AtCommit i.starter)) parent S) U)
+        → Told (Some i) parent S (with_writes (notice_held (if a then NotTold else (notice_by (if b then None else Some i))) parent S) U)
     by true e b k = NotLater same
     by false e true k = NotLater same
     by false e false k = Later i refl k (λ z. both_ways (parent == 1) e (eq-eqb parent 1 z)) (record {

@@ -12,11 +12,11 @@ use Rattle.tx_base.specs.declared.steps.Step.TheVariants.{Call as Calls, Deliver
 use Rattle.tx_model.specs.State.{Process, State, Sending, SetHeld, with_writes, is_between}
 use Rattle.tx_model.specs.Posts.{is_quiet, post_answer, post_answers}
 use Rattle.tx_model.specs.Effects.{Inside, Conclusion, Replies, concluding_reply, send_answers, failed_sends}
-use Rattle.tx_model.specs.Processes.{child_notice, NotTold, AtOnce, AtCommit, parent_notice, notice_now}
+use Rattle.tx_model.specs.Processes.{child_notice, NotTold, parent_notice, notice_now}
 use Rattle.tx_model.specs.Book.{member_sends}
 use Rattle.tx_model.specs.Events.{Event, Do, Note, Commit, effect, reply_of}
 use Rattle.tx_model.specs.Membership.{is_member_of, is_live, inside_by, Parks, Within, Kind, Ordinary, Forking, Beginning, Leaving, Aborting, says_ended, others_open, kind_event, event_in, table_after}
-use Rattle.tx_model.specs.Words.{member_end_role, ordinary_role, kind_of, kind_role}
+use Rattle.tx_model.specs.Words.{notice_by, member_end_role, ordinary_role, kind_of, kind_role}
 use Rattle.tx_model.specs.View.{View, view, present, kernel_status, abort_status}
 use Rattle.tx_model.specs.Answer.{is_running, refusal, plain_reply, accepted_reply, answer, Lawful}
 use Rattle.tx_laws.specs.Sound.{IsSound}
@@ -151,7 +151,7 @@ module _ (V : View) (sound : IsSound V) (kept : IsWellFormedView V) (form : IsWe
   ends_few ev u h turn parent was orphans sends = by (parent == 1) (is_member_of V.table s parent) refl sends
     where
       by : (a b : Bool) → is_member_of V.table s parent ≡ b
-          → (effect ev S).sends ≡ notice_now (if a then NotTold else (if b then AtOnce else AtCommit s)) parent → length u ≤ 33
+          → (effect ev S).sends ≡ notice_now (if a then NotTold else (notice_by (if b then None else Some (inner V sound kept.formed form p m e)))) parent → length u ≤ 33
       by true b k z = none_sent ev u z h turn
       by false true k z =
           let there = parent_there parent was k in

@@ -10,4 +10,5 @@ named_by ev S = objects ev S ++ processes_of (effect ev S).sends
 
 -- no object is named by both events
 abbrev pub AreApart : Event → Event → State → Type 0
-AreApart one other S = (o : Object) → has_object o (named_by one S) ≡ true → has_object o (named_by other S) ≡ false
+AreApart one other S =
+    (o : Object) → has_object o (named_by one S) ≡ true → has_object o (named_by other S) ≡ false

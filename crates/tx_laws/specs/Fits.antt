@@ -18,15 +18,24 @@ IsIn n (m ∷ ms) = (n ≡ m) ⊎ IsIn n ms
 abbrev pub ProgressFits : View → ℕ → ℕ → Event → Progress → Type 0
 ProgressFits V s p ev Continues = is_member_of V.table s p ≡ true
 ProgressFits V s p ev Parks = is_member_of V.table s p ≡ true
-ProgressFits V s p ev (Forks c) = (is_member_of V.table s p ≡ true) × (has_object (Proc c) (objects ev (present V)) ≡ true) × (is_between V.table.width c ≡ true)
-ProgressFits V s p ev (Begins defers) = (s ≡ p) × (V.table.marks p ≡ None) × (is_between V.table.width p ≡ true) × (is_running ((present V).procs p) ≡ true)
+ProgressFits V s p ev (Forks c) =
+    (is_member_of V.table s p ≡ true)
+    × (has_object (Proc c) (objects ev (present V)) ≡ true)
+    × (is_between V.table.width c ≡ true)
+ProgressFits V s p ev (Begins defers) =
+    (s ≡ p)
+    × (V.table.marks p ≡ None)
+    × (is_between V.table.width p ≡ true)
+    × (is_running ((present V).procs p) ≡ true)
 
--- the event is of a member of the transaction, or of its future starter; it posts among the members, and holds with its own
+-- the event is of a member of the transaction, or of its future starter; it posts among the
+-- members, and holds with its own
 pub record FitsWithin (s : ℕ) (progress : Progress) (ev : Event) (p : ℕ) (V : View) : Type 0 where
   pub actor_is : actor ev ≡ p
   pub mine : (t : ℕ) → is_member_of V.table t p ≡ true → t ≡ s
   pub progress_fits : ProgressFits V s p ev progress
-  pub sends : (S : State) (m : Sending) → IsIn m (effect ev S).sends → is_other_starter V.table (actor ev) m.target ≡ false
+  pub sends : (S : State) (m : Sending) → IsIn m (effect ev S).sends
+      → is_other_starter V.table (actor ev) m.target ≡ false
   pub holds : (S : State) (u : ℕ) → has_object (Held u) (objects ev S) ≡ true → u ≡ s
 
 -- how the event fits the role

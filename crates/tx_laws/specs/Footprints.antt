@@ -1,4 +1,5 @@
--- How the footprint of a step depends on its event, and shows who is in the way of the step. Own rules.
+-- How the footprint of a step depends on its event, and shows who is in the way of the step. Own
+-- rules.
 use Rattle.std.specs.Prelude.{◌≡◌, ℕ, Bool, true, false, None, if◌then◌else◌}
 use Rattle.tx_base.specs.declared.steps.Step.{Step}
 use Rattle.tx_base.specs.declared.steps.Step.TheVariants.{Call as Calls, Deliver, KernelAbort}
@@ -25,15 +26,22 @@ is_abort (Within s progress) = false
 is_abort (Commits s) = false
 is_abort (Aborts s status) = true
 
--- the footprint of a step of a process that runs, which is no abort: what its event names, and the targets of its posts
+-- the footprint of a step of a process that runs, which is no abort: what its event names, and the
+-- targets of its posts
 abbrev pub FootprintIsOfEvent : Type 0
 FootprintIsOfEvent =
-    (view : View) (step : Step) (object : Object) → is_running ((present view).procs (process_of step)) ≡ true → is_abort (role_on view step) ≡ false
-    → is_shared object ≡ true → has_object object (footprint view.table step (present view)) ≡ has_object object (event_footprint view.table (event_on view step) (present view))
+    (view : View) (step : Step) (object : Object)
+    → is_running ((present view).procs (process_of step)) ≡ true
+    → is_abort (role_on view step) ≡ false
+    → is_shared object ≡ true
+    → has_object object (footprint view.table step (present view))
+    ≡ has_object object (event_footprint view.table (event_on view step) (present view))
 
 -- what a transaction holds is in the footprint of no step
 abbrev pub FootprintIsShared : Type 0
-FootprintIsShared = (table : Table) (step : Step) (state : State) (starter : ℕ) → has_object (Held starter) (footprint table step state) ≡ false
+FootprintIsShared =
+    (table : Table) (step : Step) (state : State) (starter : ℕ)
+    → has_object (Held starter) (footprint table step state) ≡ false
 
 -- whether the step is a call or a delivery: nobody is ever in the way of the kernel's abort
 abbrev pub is_asked : Step → Bool
@@ -41,24 +49,34 @@ is_asked (Calls p call) = true
 is_asked (Deliver p signo) = true
 is_asked (KernelAbort s) = false
 
--- whether the live transaction of s, of which its process is no member, is in the way of a step, by the step's footprint
+-- whether the live transaction of s, of which its process is no member, is in the way of a step, by
+-- the step's footprint
 abbrev pub is_in_way : View → Step → ℕ → Bool
 is_in_way view step s =
+    let is_reserved = some_object (footprint view.table step (present view)) (view.reserved s) in
+    let blocks = if is_reserved then true else has_two_answers view (event_on view step) s in
     if is_live view.table s
-    then (if is_member_of view.table s (process_of step) then false
-    else (if some_object (footprint view.table step (present view)) (view.reserved s) then true else has_two_answers view (event_on view step) s))
+    then (if is_member_of view.table s (process_of step) then false else blocks)
     else false
 
 -- a busy step names the least starter that is in its way
 abbrev pub StarterInWayIsOfStep : Type 0
-StarterInWayIsOfStep = (view : View) (step : Step) → IsSound view → is_asked step ≡ true → is_running ((present view).procs (process_of step)) ≡ true →
+StarterInWayIsOfStep =
+    (view : View) (step : Step) → IsSound view → is_asked step ≡ true
+    → is_running ((present view).procs (process_of step)) ≡ true →
     starter_in_way view (event_on view step) ≡ least (is_in_way view step) view.table.width
 
 -- if none is named, nobody is in the way
 abbrev pub NoStarterIsClear : Type 0
-NoStarterIsClear = (view : View) (event : Event) → IsSound view → starter_in_way view event ≡ None → IsClear view event
+NoStarterIsClear =
+    (view : View) (event : Event) → IsSound view → starter_in_way view event ≡ None
+    → IsClear view event
 
--- if nobody is in the way, the process is a member of each transaction that reserved what the event names
+-- if nobody is in the way, the process is a member of each transaction that reserved what the event
+-- names
 abbrev pub ClearIsOfMembers : Type 0
-ClearIsOfMembers = (view : View) (event : Event) (object : Object) (starter : ℕ) → IsSound view → IsClear view event →
-    has_object object (event_footprint view.table event (present view)) ≡ true → view.reserved starter object ≡ true → is_member_of view.table starter (actor event) ≡ true
+ClearIsOfMembers =
+    (view : View) (event : Event) (object : Object) (starter : ℕ) → IsSound view
+    → IsClear view event →
+    has_object object (event_footprint view.table event (present view)) ≡ true
+    → view.reserved starter object ≡ true → is_member_of view.table starter (actor event) ≡ true

@@ -17,10 +17,14 @@ EmptyViewIsWellFormed = (start : State) → HoldsNothing start → IsWellFormedV
 
 -- the next view of a well-formed view by an accepted step is well formed
 abbrev pub NextViewIsWellFormed : Type 0
-NextViewIsWellFormed = (view : View) (step : Step) → IsSound view → IsWellFormed (present view) → IsWellFormedView view →
+NextViewIsWellFormed =
+    (view : View) (step : Step) → IsSound view
+    → IsWellFormed (present view) → IsWellFormedView view →
     IsAccepted (answer view step) → IsWellFormedView (next view step)
 
 -- what a step on a well-formed view lists as it commits fits its reply
 abbrev pub ViewsListEnough : Type 0
-ViewsListEnough = (view : View) (step : Step) (items : List Missed) → IsSound view → IsWellFormed (present view) → IsWellFormedView view →
+ViewsListEnough =
+    (view : View) (step : Step) (items : List Missed) → IsSound view → IsWellFormed (present view)
+    → IsWellFormedView view →
     answer view step ≡ Committed (record { items = items }) → length items ≤ UNDELIVERED

@@ -1,4 +1,5 @@
--- A committed transaction as one moment: the history with its steps put together, and when nothing shows the difference. Own rules.
+-- A committed transaction as one moment: the history with its steps put together, and when nothing
+-- shows the difference. Own rules.
 use Rattle.std.specs.Prelude.{ℕ, Bool, true, false, ◌&&◌, ◌||◌, not, List, [], ◌∷◌, ◌++◌, if◌then◌else◌, ◌==◌}
 use Rattle.tx_base.specs.declared.steps.Accepted.{Accepted}
 use Rattle.tx_base.specs.declared.steps.Call.{Call}
@@ -38,14 +39,18 @@ begins_it s (Within t (Begins defers)) = t == s
 begins_it s (Commits t) = false
 begins_it s (Aborts t status) = false
 
--- the steps of the transaction of s that lives at the end of the history, back to its first, and all other steps
+-- the steps of the transaction of s that lives at the end of the history, back to its first, and
+-- all other steps
 unfoldable pub parted : State → ℕ → List Accepted → Parted
 parted S s [] = record { own = []; others = [] }
 parted S s (e ∷ h) =
     if begins_it s (role_in S e h) then record { own = e ∷ []; others = h }
-    else (if is_step_of s (role_in S e h) then with_own e (parted S s h) else with_other e (parted S s h))
+    else (if is_step_of s (role_in S e h)
+    then with_own e (parted S s h)
+    else with_other e (parted S s h))
 
--- the history in which the steps of the transaction that a step commits are directly before that step
+-- the history in which the steps of the transaction that a step commits are directly before that
+-- step
 abbrev pub moved_to : State → ℕ → Accepted → List Accepted → List Accepted
 moved_to S s e h = e ∷ (parted S s h).own ++ (parted S s h).others
 
@@ -69,17 +74,21 @@ unfoldable pub is_sent_to : ℕ → List Sending → Bool
 is_sent_to s [] = false
 is_sent_to s (m ∷ ms) = m.target == s || is_sent_to s ms
 
--- a step of the transaction of s shows its moment: the starter looks at its signals, or a send goes to the starter, whatever it is answered
+-- a step of the transaction of s shows its moment: the starter looks at its signals, or a send goes
+-- to the starter, whatever it is answered
 abbrev pub tells_moment : State → ℕ → Accepted → List Accepted → Bool
 tells_moment S s e h =
-    (process_of e.step == s && looks_at_signals e.step) || is_sent_to s (effect (event_of S e h) (without S nobody h)).sends
+    (process_of e.step == s && looks_at_signals e.step)
+    || is_sent_to s (effect (event_of S e h) (without S nobody h)).sends
 
 -- no step of the transaction of s, back to its first, shows its moment
 unfoldable pub is_silent : State → ℕ → List Accepted → Bool
 is_silent S s [] = true
 is_silent S s (e ∷ h) =
     if begins_it s (role_in S e h) then true
-    else (if is_step_of s (role_in S e h) then not (tells_moment S s e h) && is_silent S s h else is_silent S s h)
+    else (if is_step_of s (role_in S e h)
+    then not (tells_moment S s e h) && is_silent S s h
+    else is_silent S s h)
 
 -- the transaction of s that the step commits may count as one moment
 abbrev pub is_one_moment : State → ℕ → Accepted → List Accepted → Bool

@@ -32,4 +32,6 @@ IsOwnOutcome outcome = ⊥
 
 -- such a call has such an outcome, whoever makes it
 abbrev pub OwnCallsStayOwn : Type 0
-OwnCallsStayOwn = (c : Caller) (asked : Call) → concerns_itself_alone asked ≡ true → IsOwnOutcome ((page_of_call asked).outcome c)
+OwnCallsStayOwn =
+    (c : Caller) (asked : Call) → concerns_itself_alone asked ≡ true
+    → IsOwnOutcome ((page_of_call asked).outcome c)

@@ -9,4 +9,6 @@ use Rattle.tx_model.specs.Answer.{answer}
 
 -- what a step shows fits its reply, on whatever view
 abbrev pub ShowsFew : Type 0
-ShowsFew = (view : View) (step : Step) (bytes : ArrayVec ℕ) → answer view step ≡ Out bytes → length bytes.items ≤ CONSOLE_BYTES
+ShowsFew =
+    (view : View) (step : Step) (bytes : ArrayVec ℕ) → answer view step ≡ Out bytes
+    → length bytes.items ≤ CONSOLE_BYTES

@@ -1,4 +1,5 @@
--- What holds for the view of every history: what an object has without some transactions depends only on those that reserved it. Own rules.
+-- What holds for the view of every history: what an object has without some transactions depends
+-- only on those that reserved it. Own rules.
 use Rattle.std.specs.Prelude.{◌≡◌, ℕ, true}
 use Rattle.tx_model.specs.State.{Object, Proc, Held, is_between}
 use Rattle.tx_model.specs.StateLaws.{AgreeAt}
@@ -8,8 +9,10 @@ use Rattle.tx_model.specs.View.{View}
 use Rattle.tx_model.specs.Answer.{is_running}
 
 pub record IsSound (V : View) : Type 0 where
-  -- the states without X and without Y agree at an object if X and Y have the same of those that reserved it
-  pub coherent : (X Y : Starters) (o : Object) → ((s : ℕ) → V.reserved s o ≡ true → X s ≡ Y s) → AgreeAt (V.without X) (V.without Y) o
+  -- the states without X and without Y agree at an object if X and Y have the same of those that
+  -- reserved it
+  pub coherent : (X Y : Starters) (o : Object) → ((s : ℕ) → V.reserved s o ≡ true → X s ≡ Y s)
+      → AgreeAt (V.without X) (V.without Y) o
   -- only live transactions have reserved anything, and at most one an object
   pub owned_live : (s : ℕ) (o : Object) → V.reserved s o ≡ true → is_live V.table s ≡ true
   pub single : (s t : ℕ) (o : Object) → V.reserved s o ≡ true → V.reserved t o ≡ true → s ≡ t
@@ -20,6 +23,7 @@ pub record IsSound (V : View) : Type 0 where
   -- its members have process numbers
   pub bounded : (s p : ℕ) → is_member_of V.table s p ≡ true → is_between V.table.width p ≡ true
   -- its starter runs in the state without it
-  pub starter_runs : (s : ℕ) → is_live V.table s ≡ true → is_running ((V.without (just s)).procs s) ≡ true
+  pub starter_runs : (s : ℕ) → is_live V.table s ≡ true
+      → is_running ((V.without (just s)).procs s) ≡ true
   -- every state has the width of the table
   pub width : (X : Starters) → (V.without X).width ≡ V.table.width

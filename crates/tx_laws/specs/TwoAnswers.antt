@@ -13,8 +13,9 @@ use Rattle.tx_laws.specs.TwoStates.{TwoStates, is_owner}
 unfoldable pub differs_by : ℕ → List Sending → Option Process → Option Process → Bool
 differs_by s [] one other = false
 differs_by s (m ∷ ms) one other =
+    let same = int_eq (post_answer m one) (post_answer m other) in
     if m.target == s
-    then (if int_eq (post_answer m one) (post_answer m other) then differs_by s ms (target_after m one) (target_after m other) else true)
+    then (if same then differs_by s ms (target_after m one) (target_after m other) else true)
     else differs_by s ms one other
 
 -- whether s owns something that the event names
@@ -28,6 +29,7 @@ sends_differ c ev s = differs_by s (effect ev c.now).sends (c.now.procs s) (c.ke
 -- whether the live transaction of s, of which the actor is no member, is in the way of the event
 abbrev pub states_in_way : TwoStates → Event → ℕ → Bool
 states_in_way c ev s =
+    let blocks = if owns_named c ev s then true else sends_differ c ev s in
     if is_live c.table s
-    then (if is_member_of c.table s (actor ev) then false else (if owns_named c ev s then true else sends_differ c ev s))
+    then (if is_member_of c.table s (actor ev) then false else blocks)
     else false

@@ -1,5 +1,5 @@
--- A kernel with two states, and an owner for each object: each object as it is, and as it would be without its owner's transaction. Own
--- rules.
+-- A kernel with two states, and an owner for each object: each object as it is, and as it would be
+-- without its owner's transaction. Own rules.
 use Rattle.std.specs.Prelude.{ℕ, Bool, false, List, Option, Some, None, is_none, if◌then◌else◌, ◌==◌}
 use Rattle.tx_model.specs.State.{State, Object, Proc, Desc, Pipe, Held, has_object}
 use Rattle.tx_model.specs.Effects.{send_answers, after_effect}
@@ -37,7 +37,8 @@ abbrev pub states_without : TwoStates → Starters → State
 states_without c X = pick (λ o. in_set X (c.owner o)) c.kept c.now
 
 unfoldable pub states_view : TwoStates → View
-states_view c = record { without = states_without c; table = c.table; reserved = λ s o. is_owner s (c.owner o) }
+states_view c =
+    record { without = states_without c; table = c.table; reserved = λ s o. is_owner s (c.owner o) }
 
 abbrev pub freed : ℕ → Option ℕ → Option ℕ
 freed s None = None
@@ -58,11 +59,17 @@ with_reserved s F ev table c = record {
 
 -- the event is made on both sides, as it is on S
 abbrev pub on_both : Event → State → TwoStates → (Object → Option ℕ) → Table → TwoStates
-on_both ev S c owner table = record { now = made ev S S; kept = made ev S c.kept; owner = owner; table = table }
+on_both ev S c owner table =
+    record { now = made ev S S; kept = made ev S c.kept; owner = owner; table = table }
 
 -- the kernel after a step of process p in this role
 unfoldable pub states_next : Role → Event → ℕ → TwoStates → TwoStates
 states_next Outside ev p c = on_both ev c.now c c.owner (table_after Outside p c.table)
-states_next (Within s progress) ev p c = with_reserved s (objects_reserved progress s (event_footprint c.table ev c.now)) ev (table_after (Within s progress) p c.table) c
-states_next (Commits s) ev p c = on_both ev c.now c (λ o. freed s (c.owner o)) (table_after (Commits s) p c.table)
-states_next (Aborts s status) ev p c = on_both ev (states_without c (just s)) c (λ o. freed s (c.owner o)) (table_after (Aborts s status) p c.table)
+states_next (Within s progress) ev p c =
+    with_reserved s (objects_reserved progress s (event_footprint c.table ev c.now)) ev
+    (table_after (Within s progress) p c.table) c
+states_next (Commits s) ev p c =
+    on_both ev c.now c (λ o. freed s (c.owner o)) (table_after (Commits s) p c.table)
+states_next (Aborts s status) ev p c =
+    on_both ev (states_without c (just s)) c (λ o. freed s (c.owner o))
+    (table_after (Aborts s status) p c.table)

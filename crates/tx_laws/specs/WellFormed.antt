@@ -76,8 +76,8 @@ pub record IsHeldSending (width : ℕ) (m : Sending) : Type 0 where
   pub known : is_known m.signo ≡ true
   pub target : is_between width m.target ≡ true
 
--- what a process has is within its limits: only standard signals are in the set of those pending, only realtime ones in the queue; SIGKILL
--- is neither caught nor ignored
+-- what a process has is within its limits: only standard signals are in the set of those pending,
+-- only realtime ones in the queue; SIGKILL is neither caught nor ignored
 pub record HasLimits (q : Process) : Type 0 where
   pub point : q.registers.point ≤ LAST_POINT
   pub pages : All IsWholePage q.memory
@@ -85,7 +85,8 @@ pub record HasLimits (q : Process) : Type 0 where
   pub mask : IsMask q.mask
   pub actions : All HasActionLimits q.actions
   pub kill : action_at kill_signo q ≡ Usual
-  pub pending : (signo : ℕ) → is_in_set q.pending signo ≡ true → is_one_of standard_signals signo ≡ true
+  pub pending : (signo : ℕ) → is_in_set q.pending signo ≡ true
+      → is_one_of standard_signals signo ≡ true
   pub queued : All IsRealtimeEntry q.queued
   pub frames : All HasFrameLimits q.frames
 
@@ -103,15 +104,18 @@ pub record IsFirst (q : Process) : Type 0 where
   pub pending : q.pending ≡ 0
   pub queued : length q.queued ≡ 0
 
--- process 1 exists; each process has its place; a description exists exactly while a descriptor names it, and a pipe exactly while a
--- description does; the numbers (descriptions 0 to 63, pipes 0 to 31) and sizes are within their limits, and so is what each process has;
--- the signals that transactions hold are known ones, to process numbers in range
+-- process 1 exists; each process has its place; a description exists exactly while a descriptor
+-- names it, and a pipe exactly while a description does; the numbers (descriptions 0 to 63, pipes 0
+-- to 31) and sizes are within their limits, and so is what each process has; the signals that
+-- transactions hold are known ones, to process numbers in range
 pub record IsWellFormed (S : State) : Type 0 where
   pub first : (q : Process) × (S.procs 1 ≡ Some q) × IsFirst q
   pub placed : (n : ℕ) (q : Process) → S.procs n ≡ Some q → IsPlaced S n q
   pub names : (n f d : ℕ) → names_at d f (S.procs n) ≡ true → is_some (S.descs d) ≡ true
-  pub named : (d : ℕ) (x : Description) → S.descs d ≡ Some x → (is_named d S ≡ true) × (d < DESCRIPTIONS) × (is_some (S.pipes x.pipe) ≡ true)
-  pub pipes : (k : ℕ) (bytes : List ℕ) → S.pipes k ≡ Some bytes → (has_description k S ≡ true) × (k < PIPES) × (length bytes ≤ PIPE_BYTES)
+  pub named : (d : ℕ) (x : Description) → S.descs d ≡ Some x
+      → (is_named d S ≡ true) × (d < DESCRIPTIONS) × (is_some (S.pipes x.pipe) ≡ true)
+  pub pipes : (k : ℕ) (bytes : List ℕ) → S.pipes k ≡ Some bytes
+      → (has_description k S ≡ true) × (k < PIPES) × (length bytes ≤ PIPE_BYTES)
   pub limits : (n : ℕ) (q : Process) → S.procs n ≡ Some q → HasLimits q
   pub held : (s : ℕ) → All (IsHeldSending S.width) (S.held s)
 

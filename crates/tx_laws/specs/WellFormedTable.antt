@@ -23,9 +23,9 @@ abbrev pub HasParentOutside : Table → ℕ → Option Process → Type 0
 HasParentOutside t s None = Unit {0}
 HasParentOutside t s (Some q) = is_member_of t s q.parent ≡ false
 
--- what holds for the live transaction of s: its starter exists, the members whose part has not ended run, only the starter's parent is
--- outside, and it holds no more sends of its members than it may; the kernel's own send goes to the starter's parent, once the starter has
--- ended
+-- what holds for the live transaction of s: its starter exists, the members whose part has not
+-- ended run, only the starter's parent is outside, and it holds no more sends of its members than
+-- it may; the kernel's own send goes to the starter's parent, once the starter has ended
 pub record IsTransaction (t : Table) (S : State) (s : ℕ) : Type 0 where
   pub starter : is_some (S.procs s) ≡ true
   pub open_parts : (p : ℕ) → is_open_of s (t.marks p) ≡ true → is_running (S.procs p) ≡ true
@@ -45,8 +45,8 @@ pub record IsWellFormedWith (t : Table) (S : State) : Type 0 where
 abbrev pub HoldsNothing : State → Type 0
 HoldsNothing S = (s : ℕ) → S.held s ≡ []
 
--- what holds for the view of every history: its live transactions are so in the state, and without one of them nothing is held by its
--- number
+-- what holds for the view of every history: its live transactions are so in the state, and without
+-- one of them nothing is held by its number
 pub record IsWellFormedView (V : View) : Type 0 where
   pub formed : IsWellFormedWith V.table (present V)
   pub left : (s : ℕ) → (V.without (just s)).held s ≡ []

@@ -8,8 +8,9 @@ use Rattle.tx_lines.specs.ListedSets.{FitsSet}
 use Rattle.tx_lines.specs.Sets.{set_text}
 use Rattle.tx_lines.specs.Words.{joined}
 
--- an argument: a number, which a program may take from a slot; a point, which a program names by a label; a number below a limit that is chosen as
--- the call is made, so that a program leaves it out; one of a few words; bytes; or a set of signals
+-- an argument: a number, which a program may take from a slot; a point, which a program names by a
+-- label; a number below a limit that is chosen as the call is made, so that a program leaves it
+-- out; one of a few words; bytes; or a set of signals
 pub data Argument : Type 0 where
   Number : ℤ → Argument
   Point : ℕ → Argument

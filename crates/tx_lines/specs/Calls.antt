@@ -1,5 +1,6 @@
--- The text of a call, without the process that makes it: a name, and arguments. One table has both for each call; all else follows from it, but
--- for the group that a call is read with, and its numbers.
+-- The text of a call, without the process that makes it: a name, and arguments. One table has both
+-- for each call; all else follows from it, but for the group that a call is read with, and its
+-- numbers.
 use Rattle.std.specs.Prelude.{ℕ, ℤ, ◌^◌, Bool, true, false, List, [], ◌∷◌, ◌++◌, codes}
 use Rattle.std.specs.Fmt.{signed_decimal}
 use Rattle.std.specs.List.{filter}
@@ -53,32 +54,40 @@ as_arguments parts = Word parts.0 ∷ parts.1
 abbrev pub parts_of : Call → List ℕ × List Argument
 parts_of (call.Map page) = (codes "map", Number page ∷ [])
 parts_of (call.Unmap page) = (codes "unmap", Number page ∷ [])
-parts_of (call.Protect page writable) = (codes "protect", Number page ∷ Word (access_text writable) ∷ [])
+parts_of (call.Protect page writable) =
+    (codes "protect", Number page ∷ Word (access_text writable) ∷ [])
 parts_of (call.Store address bytes) = (codes "store", Number address ∷ Bytes bytes.items ∷ [])
 parts_of (call.Load address) = (codes "load", Number address ∷ [])
 parts_of (call.Fork child) = (codes "fork", Chosen (2 ^ 16) child.0 ∷ [])
 parts_of (call.Exit status) = (codes "exit", Number status ∷ [])
-parts_of (call.Waitpid target nohang) = (codes "waitpid", Number target ∷ Word (waiting_text nohang) ∷ [])
+parts_of (call.Waitpid target nohang) =
+    (codes "waitpid", Number target ∷ Word (waiting_text nohang) ∷ [])
 parts_of call.Getpid = (codes "getpid", [])
 parts_of call.Getppid = (codes "getppid", [])
 parts_of (call.Setuid id) = (codes "setuid", Number id ∷ [])
 parts_of (call.Seteuid id) = (codes "seteuid", Number id ∷ [])
 parts_of (call.Setgid id) = (codes "setgid", Number id ∷ [])
 parts_of (call.Setegid id) = (codes "setegid", Number id ∷ [])
-parts_of (call.Pipe pipe read write) = (codes "pipe", Chosen (2 ^ 8) pipe.0 ∷ Chosen (2 ^ 8) read.0 ∷ Chosen (2 ^ 8) write.0 ∷ [])
+parts_of (call.Pipe pipe read write) =
+    (codes "pipe", Chosen (2 ^ 8) pipe.0 ∷ Chosen (2 ^ 8) read.0 ∷ Chosen (2 ^ 8) write.0 ∷ [])
 parts_of (call.Dup fd) = (codes "dup", Number fd ∷ [])
 parts_of (call.Dup2 from to) = (codes "dup2", Number from ∷ Number to ∷ [])
 parts_of (call.Close fd) = (codes "close", Number fd ∷ [])
 parts_of (call.SetNonblock fd on) = (codes "set_nonblock", Number fd ∷ Word (switch_text on) ∷ [])
-parts_of (call.Read fd address count) = (codes "read", Number fd ∷ Number address ∷ Number count ∷ [])
-parts_of (call.Write fd address count) = (codes "write", Number fd ∷ Number address ∷ Number count ∷ [])
+parts_of (call.Read fd address count) =
+    (codes "read", Number fd ∷ Number address ∷ Number count ∷ [])
+parts_of (call.Write fd address count) =
+    (codes "write", Number fd ∷ Number address ∷ Number count ∷ [])
 parts_of (call.Kill target signo) = (codes "kill", Number target ∷ Number signo ∷ [])
-parts_of (call.Sigqueue target signo value) = (codes "sigqueue", Number target ∷ Number signo ∷ Number value ∷ [])
-parts_of (call.Sigaction signo action) = (codes "sigaction", Number signo ∷ as_arguments (action_parts action))
+parts_of (call.Sigqueue target signo value) =
+    (codes "sigqueue", Number target ∷ Number signo ∷ Number value ∷ [])
+parts_of (call.Sigaction signo action) =
+    (codes "sigaction", Number signo ∷ as_arguments (action_parts action))
 parts_of (call.Sigprocmask how set) = (codes "sigprocmask", Word (how_text how) ∷ Signals set ∷ [])
 parts_of call.Sigpending = (codes "sigpending", [])
 parts_of call.Sigreturn = (codes "sigreturn", [])
-parts_of (call.ConsoleWrite address count) = (codes "console_write", Number address ∷ Number count ∷ [])
+parts_of (call.ConsoleWrite address count) =
+    (codes "console_write", Number address ∷ Number count ∷ [])
 parts_of (call.Jump point when) = (codes "jump", Point point ∷ as_arguments (when_parts when))
 parts_of (call.Keep slot) = (codes "keep", Number slot ∷ [])
 parts_of call.SysXbegin = (codes "sys_xbegin", [])
@@ -86,8 +95,8 @@ parts_of call.SysXbeginDefer = (codes "sys_xbegin", Word (codes "defer") ∷ [])
 parts_of call.SysXend = (codes "sys_xend", [])
 parts_of call.SysXabort = (codes "sys_xabort", [])
 
--- the group of a call: those known by the front of their text, memory, processes, ids, descriptors, transfers, signals, script, and those
--- without arguments
+-- the group of a call: those known by the front of their text, memory, processes, ids, descriptors,
+-- transfers, signals, script, and those without arguments
 abbrev pub group_of : Call → ℕ
 group_of (call.Store address bytes) = 0
 group_of (call.Load address) = 0
@@ -146,7 +155,8 @@ with_numbers at (call.SetNonblock fd on) = call.SetNonblock (at 0 fd) on
 with_numbers at (call.Read fd address count) = call.Read (at 0 fd) (at 1 address) (at 2 count)
 with_numbers at (call.Write fd address count) = call.Write (at 0 fd) (at 1 address) (at 2 count)
 with_numbers at (call.Kill target signo) = call.Kill (at 0 target) (at 1 signo)
-with_numbers at (call.Sigqueue target signo value) = call.Sigqueue (at 0 target) (at 1 signo) (at 2 value)
+with_numbers at (call.Sigqueue target signo value) =
+    call.Sigqueue (at 0 target) (at 1 signo) (at 2 value)
 with_numbers at (call.Sigaction signo action) = call.Sigaction (at 0 signo) action
 with_numbers at (call.ConsoleWrite address count) = call.ConsoleWrite (at 0 address) (at 1 count)
 with_numbers at (call.Jump point when) = call.Jump point (when_with at when)

@@ -35,12 +35,15 @@ spelled_word (Label name) argument = 64 ∷ name.bytes.items
 
 -- the words of some arguments, as they are spelled
 abbrev pub spelled_words : List Spelling → List Argument → List (List ℕ)
-spelled_words (spelling ∷ spellings) (argument ∷ arguments) = spelled_word spelling argument ∷ spelled_words spellings arguments
+spelled_words (spelling ∷ spellings) (argument ∷ arguments) =
+    spelled_word spelling argument ∷ spelled_words spellings arguments
 spelled_words _ _ = []
 
 -- the spelling of an instruction, without the line's end
 abbrev pub instruction_text : Instruction → List ℕ
-instruction_text instruction = joined (name_of instruction.call) (spelled_words instruction.spellings.items (program_arguments instruction.call))
+instruction_text instruction =
+    joined (name_of instruction.call)
+    (spelled_words instruction.spellings.items (program_arguments instruction.call))
 
 -- what an argument is
 abbrev pub kind_of : Argument → Kind
@@ -62,7 +65,9 @@ may_be (Label name) kinds.Word = false
 
 -- each argument may be spelled so, where both are there
 abbrev pub MayAllBe : List Spelling → List Argument → Type 0
-MayAllBe spellings arguments = (place : ℕ) (spelling : Spelling) (argument : Argument) → slice_get spellings place ≡ Some spelling
+MayAllBe spellings arguments =
+    (place : ℕ) (spelling : Spelling) (argument : Argument)
+    → slice_get spellings place ≡ Some spelling
     → slice_get arguments place ≡ Some argument → may_be spelling (kind_of argument) ≡ true
 
 -- an argument is spelled so in a text; until it is known it is 0
@@ -74,7 +79,8 @@ IsSpelled (Label name) argument = (is_name name.bytes.items ≡ true) × (argume
 -- so are some arguments, one by one
 abbrev pub AreSpelled : List Spelling → List Argument → Type 0
 AreSpelled [] [] = Unit {0}
-AreSpelled (spelling ∷ spellings) (argument ∷ arguments) = IsSpelled spelling argument × AreSpelled spellings arguments
+AreSpelled (spelling ∷ spellings) (argument ∷ arguments) =
+    IsSpelled spelling argument × AreSpelled spellings arguments
 AreSpelled _ _ = ⊥
 
 -- what is chosen is 0 until it is
@@ -98,12 +104,15 @@ abbrev pub slot_spelling : ℕ → Spelling
 slot_spelling byte = if nat_le 48 byte && nat_le byte 55 then Slot (byte - 48) else Plain
 
 abbrev pub label_spelling : List ℕ → Spelling
-label_spelling bytes = if is_name bytes then Label (record { bytes = record { items = bytes } }) else Plain
+label_spelling bytes =
+    if is_name bytes then Label (record { bytes = record { items = bytes } }) else Plain
 
 abbrev pub spelling_of : List ℕ → Spelling
 spelling_of [] = Plain
 spelling_of (byte ∷ bytes) =
-    if nat_eq byte 36 && nat_eq (length bytes) 1 then slot_spelling (slice_index bytes 0) else if nat_eq byte 64 then label_spelling bytes else Plain
+    if nat_eq byte 36 && nat_eq (length bytes) 1
+    then slot_spelling (slice_index bytes 0) else if nat_eq byte 64 then label_spelling bytes
+    else Plain
 
 -- a word that is spelled so, or 0 where it names a slot or a label
 abbrev pub plain_as : Spelling → List ℕ → List ℕ
@@ -120,7 +129,10 @@ with_byte byte words = (byte ∷ words.0, words.1)
 
 abbrev pub words_of : List ℕ → List ℕ × List (List ℕ)
 words_of [] = ([], [])
-words_of (byte ∷ bytes) = if nat_eq byte 32 then ([], (words_of bytes).0 ∷ (words_of bytes).1) else with_byte byte (words_of bytes)
+words_of (byte ∷ bytes) =
+    if nat_eq byte 32
+    then ([], (words_of bytes).0 ∷ (words_of bytes).1)
+    else with_byte byte (words_of bytes)
 
 -- the words of a call, with 0 for what is not yet known
 abbrev pub plain_text : Call → List ℕ
@@ -130,12 +142,15 @@ plain_text c = text_of (name_of c, program_arguments c)
 abbrev pub chooses_numbers : Call → Bool
 chooses_numbers c = not (list_all is_spelled (arguments_of c))
 
--- what the argument at a place is: of a call whose first is a number and whose others are words, of a jump, and of a sigaction
+-- what the argument at a place is: of a call whose first is a number and whose others are words, of
+-- a jump, and of a sigaction
 abbrev pub kind_of_first : ℕ → Kind
 kind_of_first place = if nat_eq place 0 then kinds.Number else kinds.Word
 
 abbrev pub kind_in_jump : ℕ → Kind
-kind_in_jump place = if nat_eq place 0 then kinds.Point else if nat_eq place 1 then kinds.Word else kinds.Number
+kind_in_jump place =
+    if nat_eq place 0 then kinds.Point else if nat_eq place 1 then kinds.Word else kinds.Number
 
 abbrev pub kind_in_sigaction : ℕ → Kind
-kind_in_sigaction place = if nat_eq place 0 then kinds.Number else if nat_eq place 2 then kinds.Point else kinds.Word
+kind_in_sigaction place =
+    if nat_eq place 0 then kinds.Number else if nat_eq place 2 then kinds.Point else kinds.Word

@@ -1,4 +1,5 @@
--- The lines of a schedule, and the first line of each text: one spelling for each header and each step.
+-- The lines of a schedule, and the first line of each text: one spelling for each header and each
+-- step.
 use Rattle.std.specs.Prelude.{◌≡◌, ℕ, ◌<◌, ◌≤◌, ◌^◌, List, ◌∷◌, ◌++◌, Option, Some, codes}
 use Rattle.std.specs.Fmt.{decimal}
 use Rattle.tx_base.specs.declared.steps.Call.{Call}
@@ -47,7 +48,9 @@ SpellsCall version text c = (text ≡ call_text c) × FitsCall c × IsCallOf ver
 
 -- each call of a group or a later one that has that name and those arguments was read
 abbrev pub ReadsNamed : Version → ℕ → List ℕ × List ℕ → Option Call → Type 0
-ReadsNamed version group parts read = (c : Call) → FitsCall c → IsCallOf version c → group ≤ group_of c → first_word (call_text c) ≡ Some parts → read ≡ Some c
+ReadsNamed version group parts read =
+    (c : Call) → FitsCall c → IsCallOf version c → group ≤ group_of c
+    → first_word (call_text c) ≡ Some parts → read ≡ Some c
 
 -- the most processes that a text of a version begins with
 abbrev pub most_of : Version → ℕ

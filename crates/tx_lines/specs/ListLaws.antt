@@ -17,20 +17,26 @@ some_in (n ∷ ns) = true
 more_push : (ns : List ℕ) (n : ℕ) → more_text (ns ++ n ∷ []) ≡ more_text ns ++ 44 ∷ decimal n
 more_push [] n = ap (λ (t : List ℕ). 44 ∷ t) (append-nil (decimal n))
 more_push (m ∷ ms) n =
-    ap (λ (t : List ℕ). 44 ∷ (decimal m ++ t)) (more_push ms n) ∙ ap (λ (t : List ℕ). 44 ∷ t) (sym (append_assoc (decimal m) (more_text ms) (44 ∷ decimal n)))
+    ap (λ (t : List ℕ). 44 ∷ (decimal m ++ t)) (more_push ms n)
+    ∙ ap (λ (t : List ℕ). 44 ∷ t) (sym (append_assoc (decimal m) (more_text ms) (44 ∷ decimal n)))
 
-joined_push : (ns : List ℕ) (n : ℕ) → joined (ns ++ n ∷ []) ≡ joined ns ++ member_text (some_in ns) true n
+joined_push : (ns : List ℕ) (n : ℕ)
+    → joined (ns ++ n ∷ []) ≡ joined ns ++ member_text (some_in ns) true n
 joined_push [] n = append-nil (decimal n)
-joined_push (m ∷ ms) n = ap (λ (t : List ℕ). decimal m ++ t) (more_push ms n) ∙ sym (append_assoc (decimal m) (more_text ms) (44 ∷ decimal n))
+joined_push (m ∷ ms) n =
+    ap (λ (t : List ℕ). decimal m ++ t) (more_push ms n)
+    ∙ sym (append_assoc (decimal m) (more_text ms) (44 ∷ decimal n))
 
 some_push : (ns : List ℕ) (n : ℕ) → some_in (ns ++ n ∷ []) ≡ true
 some_push [] n = refl
 some_push (m ∷ ms) n = refl
 
 pub one_looked : (ns : List ℕ) (n : ℕ) (is : Bool) →
-    (joined (ns ++ cond is (n ∷ []) []) ≡ joined ns ++ member_text (some_in ns) is n) × (some_in (ns ++ cond is (n ∷ []) []) ≡ some_after (some_in ns) is)
+    (joined (ns ++ cond is (n ∷ []) []) ≡ joined ns ++ member_text (some_in ns) is n)
+    × (some_in (ns ++ cond is (n ∷ []) []) ≡ some_after (some_in ns) is)
 one_looked ns n true = (joined_push ns n, some_push ns n)
-one_looked ns n false = (ap joined (append-nil ns) ∙ sym (append-nil (joined ns)), ap some_in (append-nil ns))
+one_looked ns n false =
+    (ap joined (append-nil ns) ∙ sym (append-nil (joined ns)), ap some_in (append-nil ns))
 
 pub list_end : (ns : List ℕ) → joined ns ++ (if some_in ns then [] else codes "-") ≡ list_text ns
 list_end [] = refl

@@ -14,7 +14,8 @@ FitsSet set = bits_of set ≡ set_of (members (bits_of set))
 -- known signals that rise from above a number on
 abbrev pub AreRising : ℕ → List ℕ → Type 0
 AreRising above [] = Unit {0}
-AreRising above (signo ∷ signos) = (above < signo) × (signo < 2 ^ 8) × (is_known signo ≡ true) × AreRising signo signos
+AreRising above (signo ∷ signos) =
+    (above < signo) × (signo < 2 ^ 8) × (is_known signo ≡ true) × AreRising signo signos
 
 -- some known signals from above a number on, as a list spells them
 pub record AreListed (above : ℕ) (list : List ℕ) (first : ℕ) (others : List ℕ) : Type 0 where

@@ -44,7 +44,8 @@ IsLineOf version (line.Instruction instruction) = IsInstruction version instruct
 abbrev pub same_name : Name → Name → Bool
 same_name a b = bytes_eq a.bytes.items b.bytes.items
 
--- the labels of some lines, each with the number of the instruction after it, of which the first has that number
+-- the labels of some lines, each with the number of the instruction after it, of which the first
+-- has that number
 abbrev pub labels_from : ℕ → List Line → List (Name × ℕ)
 labels_from number [] = []
 labels_from number (line.Label name ∷ lines) = (name, number) ∷ labels_from number lines
@@ -81,14 +82,18 @@ action_with_point point action = action
 -- a call with another point, where it has one
 abbrev pub with_point : ℕ → Call → Call
 with_point point (call.Jump old when) = call.Jump point when
-with_point point (call.Sigaction signo action) = call.Sigaction signo (action_with_point point action)
+with_point point (call.Sigaction signo action) =
+    call.Sigaction signo (action_with_point point action)
 with_point point c = c
 
 -- an instruction with the number that its label names; nothing where that label is not defined
 abbrev pub linked_to : List (Name × ℕ) → Instruction → Option Name → Option Instruction
 linked_to labels instruction None = Some instruction
 linked_to labels instruction (Some name) =
-    option_map (λ point. record { call = with_point point instruction.call; spellings = instruction.spellings }) (lookup (same_name name) labels)
+    option_map
+    (λ point.
+    record { call = with_point point instruction.call; spellings = instruction.spellings })
+    (lookup (same_name name) labels)
 
 abbrev pub linked : List (Name × ℕ) → Instruction → Option Instruction
 linked labels instruction = linked_to labels instruction (label_in instruction.spellings.items)
@@ -97,12 +102,14 @@ linked labels instruction = linked_to labels instruction (label_in instruction.s
 abbrev pub program_text : Header → List Line → List ℕ
 program_text header lines = header_text kinds.Program header ++ 10 ∷ lines_of line_text lines
 
--- the program has that header, the labels of those lines, and their instructions, each with the number that its label names
+-- the program has that header, the labels of those lines, and their instructions, each with the
+-- number that its label names
 pub record IsProgramOf (lines : List Line) (program : Program) : Type 0 where
   pub header_fits : FitsHeader program.header
   pub lines_fit : AreLines program.header.version lines
   pub labels : program.labels.entries ≡ labels_of lines
-  pub instructions : map (linked (labels_of lines)) (instructions_of lines) ≡ map Some program.instructions.items
+  pub instructions :
+      map (linked (labels_of lines)) (instructions_of lines) ≡ map Some program.instructions.items
 
 -- neither an instruction of that version nor a label is spelled so
 abbrev pub IsNoLineOf : Version → List ℕ → Type 0
@@ -110,7 +117,10 @@ IsNoLineOf version text = (line : Line) → IsLineOf version line → text ≢ l
 
 -- a label of that name was met before
 abbrev pub IsSecondLabel : List Line → List ℕ → Type 0
-IsSecondLabel before text = (name : Name) × (text ≡ line_text (line.Label name)) × ((number : ℕ) × (lookup (same_name name) (labels_of before) ≡ Some number))
+IsSecondLabel before text =
+    (name : Name)
+    × (text ≡ line_text (line.Label name))
+    × ((number : ℕ) × (lookup (same_name name) (labels_of before) ≡ Some number))
 
 -- a line that begins so is a label
 abbrev pub BeginsLabel : List ℕ → Type 0
@@ -118,28 +128,41 @@ BeginsLabel text = (name : List ℕ) × (text ≡ label_front ++ name)
 
 -- after so many instructions and so many labels the line is one too many of its kind
 abbrev pub IsPastCounts : ℕ → ℕ → List ℕ → Type 0
-IsPastCounts instructions labels text = (BeginsLabel text × (labels ≡ 256)) ⊎ ((BeginsLabel text → ⊥) × (instructions ≡ 1024))
+IsPastCounts instructions labels text =
+    (BeginsLabel text × (labels ≡ 256)) ⊎ ((BeginsLabel text → ⊥) × (instructions ≡ 1024))
 
 -- after some lines the line is one too many of its kind
 abbrev pub IsPastLines : List Line → List ℕ → Type 0
-IsPastLines before text = IsPastCounts (length (instructions_of before)) (length (labels_of before)) text
+IsPastLines before text =
+    IsPastCounts (length (instructions_of before)) (length (labels_of before)) text
 
--- after so many lines, and so many instructions and labels among them, the next line is at fault whatever it says: it is too long, or one too
--- many; or else it has no end
+-- after so many lines, and so many instructions and labels among them, the next line is at fault
+-- whatever it says: it is too long, or one too many; or else it has no end
 abbrev pub FaultsUnreadLine : ℕ → ℕ → ℕ → List ℕ → Fault → Type 0
-FaultsUnreadLine count instructions labels rest (TooLong number) = (number ≡ count + 2) × ((512 < length (first_line rest)) ⊎ IsPastCounts instructions labels (first_line rest))
+FaultsUnreadLine count instructions labels rest (TooLong number) =
+    (number ≡ count + 2)
+    × ((512 < length (first_line rest)) ⊎ IsPastCounts instructions labels (first_line rest))
 FaultsUnreadLine count instructions labels rest (NotALine number) =
-    (number ≡ count + 2) × (length (first_line rest) ≤ 512) × (IsPastCounts instructions labels (first_line rest) → ⊥) × (after_line rest ≡ None)
+    (number ≡ count + 2)
+    × (length (first_line rest) ≤ 512)
+    × (IsPastCounts instructions labels (first_line rest) → ⊥)
+    × (after_line rest ≡ None)
 FaultsUnreadLine count instructions labels rest _ = ⊥
 
--- after some lines another is there, and is at fault: it is too long, or one too many; or else it has no end, or is none of a program's, or a
--- second label of its name
+-- after some lines another is there, and is at fault: it is too long, or one too many; or else it
+-- has no end, or is none of a program's, or a second label of its name
 abbrev pub FaultsAtProgramLine : Version → List Line → List ℕ → Fault → Type 0
 FaultsAtProgramLine version before rest (TooLong number) =
-    (rest ≢ []) × (number ≡ length before + 2) × ((512 < length (first_line rest)) ⊎ IsPastLines before (first_line rest))
+    (rest ≢ [])
+    × (number ≡ length before + 2)
+    × ((512 < length (first_line rest)) ⊎ IsPastLines before (first_line rest))
 FaultsAtProgramLine version before rest (NotALine number) =
-    (rest ≢ []) × (number ≡ length before + 2) × (length (first_line rest) ≤ 512) × (IsPastLines before (first_line rest) → ⊥)
-    × ((after_line rest ≡ None) ⊎ (IsNoLineOf version (first_line rest) ⊎ IsSecondLabel before (first_line rest)))
+    (rest ≢ [])
+    × (number ≡ length before + 2)
+    × (length (first_line rest) ≤ 512)
+    × (IsPastLines before (first_line rest) → ⊥)
+    × ((after_line rest ≡ None)
+    ⊎ (IsNoLineOf version (first_line rest) ⊎ IsSecondLabel before (first_line rest)))
 FaultsAtProgramLine version before rest _ = ⊥
 
 -- some lines are spelled one by one, and what follows is at fault
@@ -167,7 +190,8 @@ pub record IsFirstUser (labels : List (Name × ℕ)) (lines : List Line) (number
   pub user : Line
   pub after : List Line
   pub parts : lines ≡ before ++ user ∷ after
-  pub linked_before : (made : List Instruction) × (map (linked labels) (instructions_of before) ≡ map Some made)
+  pub linked_before :
+      (made : List Instruction) × (map (linked labels) (instructions_of before) ≡ map Some made)
   pub nowhere : IsUser labels user
   pub same : number ≡ length before + 2
 
@@ -186,11 +210,15 @@ FaultsAmongLines version text fault = FaultsAfterLines version text fault
 -- the text is at fault: at its header, or else after it
 abbrev pub IsProgramFault : List ℕ → Fault → Type 0
 IsProgramFault text fault = FaultsAtHeader kinds.Program text fault
-    ⊎ ((header : Header) × (rest : List ℕ) × SpellsHeader kinds.Program text header rest × FaultsAmongLines header.version rest fault)
+    ⊎ ((header : Header)
+    × (rest : List ℕ)
+    × SpellsHeader kinds.Program text header rest
+    × FaultsAmongLines header.version rest fault)
 
 -- the program whose text it is, or the text's fault
 abbrev pub ReadsProgram : List ℕ → Result Program Fault → Type 0
-ReadsProgram text (Ok program) = (lines : List Line) × IsProgramOf lines program × (text ≡ program_text program.header lines)
+ReadsProgram text (Ok program) =
+    (lines : List Line) × IsProgramOf lines program × (text ≡ program_text program.header lines)
 ReadsProgram text (Err fault) = FaultsBy (IsProgramFault text) fault
 
 -- what was left to read spells that program
@@ -199,14 +227,21 @@ pub record SpellsProgram (left : Option (List ℕ)) (program : Program) : Type 0
   pub good : IsProgramOf lines program
   pub text : IfSome left (λ bytes. bytes ≡ program_text program.header lines)
 
--- the program whose text was left to read; or the text is at fault; or the source failed, or was interrupted once too often
+-- the program whose text was left to read; or the text is at fault; or the source failed, or was
+-- interrupted once too often
 abbrev pub ReadsProgramFrom : Option (List ℕ) → Counts → Result Program Fault → Counts → Type 0
 ReadsProgramFrom left reads (Ok program) reads' = SpellsProgram left program × IsCalm reads reads'
-ReadsProgramFrom left reads (Err (NotALine line)) reads' = IfSome left (λ bytes. (length bytes ≤ 1048576) × IsProgramFault bytes (NotALine line))
-ReadsProgramFrom left reads (Err (NoLabel line)) reads' = IfSome left (λ bytes. (length bytes ≤ 1048576) × IsProgramFault bytes (NoLabel line))
+ReadsProgramFrom left reads (Err (NotALine line)) reads' =
+    IfSome left (λ bytes. (length bytes ≤ 1048576) × IsProgramFault bytes (NotALine line))
+ReadsProgramFrom left reads (Err (NoLabel line)) reads' =
+    IfSome left (λ bytes. (length bytes ≤ 1048576) × IsProgramFault bytes (NoLabel line))
 ReadsProgramFrom left reads (Err (TooLong line)) reads' =
-    IfSome left (λ bytes. ((line ≡ 0) × (1048576 < length bytes)) ⊎ ((length bytes ≤ 1048576) × IsProgramFault bytes (TooLong line)))
-ReadsProgramFrom left reads (Err Reader) reads' = (reads.failed < reads'.failed) ⊎ (reads'.again ≡ reads.again + 1001)
+    IfSome left
+    (λ bytes.
+    ((line ≡ 0) × (1048576 < length bytes))
+    ⊎ ((length bytes ≤ 1048576) × IsProgramFault bytes (TooLong line)))
+ReadsProgramFrom left reads (Err Reader) reads' =
+    (reads.failed < reads'.failed) ⊎ (reads'.again ≡ reads.again + 1001)
 ReadsProgramFrom left reads (Err Writer) reads' = ⊥
 ReadsProgramFrom left reads (Err NoMemory) reads' = Unit {0}
 

@@ -63,12 +63,14 @@ pub record IsLine (text line rest : List ℕ) : Type 0 where
   pub short : length line ≤ 512
 
 -- the text begins with the line of that header
-pub record SpellsHeader (kind : TextKind) (text : List ℕ) (header : Header) (rest : List ℕ) : Type 0 where
+pub record SpellsHeader (kind : TextKind) (text : List ℕ) (header : Header) (rest : List ℕ)
+    : Type 0 where
   pub spelled : text ≡ header_text kind header ++ 10 ∷ rest
   pub fits : FitsHeader header
 
 -- one thing more, that is spelled in that line
-pub record Adds {A : Type 0} (spelling : A → List ℕ) (IsGood : A → Type 0) (line : List ℕ) (old new : List A) : Type 0 where
+pub record Adds {A : Type 0} (spelling : A → List ℕ) (IsGood : A → Type 0) (line : List ℕ)
+    (old new : List A) : Type 0 where
   pub added : A
   pub more : new ≡ old ++ added ∷ []
   pub spelled : line ≡ spelling added
@@ -83,35 +85,50 @@ FaultsBy Is NoMemory = Unit {0}
 FaultsBy Is Reader = ⊥
 FaultsBy Is Writer = ⊥
 
--- the first line of the text, which has that number, is at fault: it is too long, or else it has no end
+-- the first line of the text, which has that number, is at fault: it is too long, or else it has no
+-- end
 abbrev pub FaultsAtLine : ℕ → List ℕ → Fault → Type 0
 FaultsAtLine number text (TooLong line) = (line ≡ number) × (512 < length (first_line text))
-FaultsAtLine number text (NotALine line) = (line ≡ number) × (length (first_line text) ≤ 512) × (after_line text ≡ None)
+FaultsAtLine number text (NotALine line) =
+    (line ≡ number) × (length (first_line text) ≤ 512) × (after_line text ≡ None)
 FaultsAtLine number text _ = ⊥
 
 -- the first line of the text is at fault: it is too long; or else it has no end, or is no header
 abbrev pub FaultsAtHeader : TextKind → List ℕ → Fault → Type 0
 FaultsAtHeader kind text (TooLong line) = (line ≡ 1) × (512 < length (first_line text))
-FaultsAtHeader kind text (NotALine line) = (line ≡ 1) × (length (first_line text) ≤ 512) × ((after_line text ≡ None) ⊎ IsNoHeader kind (first_line text))
+FaultsAtHeader kind text (NotALine line) =
+    (line ≡ 1)
+    × (length (first_line text) ≤ 512)
+    × ((after_line text ≡ None) ⊎ IsNoHeader kind (first_line text))
 FaultsAtHeader kind text _ = ⊥
 
--- the next line is at fault whatever it says, after so many lines of a kind of which the first has that number: it is too long, or one too many;
--- or else it has no end
+-- the next line is at fault whatever it says, after so many lines of a kind of which the first has
+-- that number: it is too long, or one too many; or else it has no end
 abbrev pub FaultsUnread : ℕ → ℕ → List ℕ → Fault → Type 0
-FaultsUnread number count rest (TooLong line) = (line ≡ count + number) × ((512 < length (first_line rest)) ⊎ (count ≡ 4096))
-FaultsUnread number count rest (NotALine line) = (line ≡ count + number) × (length (first_line rest) ≤ 512) × (count < 4096) × (after_line rest ≡ None)
+FaultsUnread number count rest (TooLong line) =
+    (line ≡ count + number) × ((512 < length (first_line rest)) ⊎ (count ≡ 4096))
+FaultsUnread number count rest (NotALine line) =
+    (line ≡ count + number)
+    × (length (first_line rest) ≤ 512)
+    × (count < 4096)
+    × (after_line rest ≡ None)
 FaultsUnread number count rest _ = ⊥
 
--- the next line is at fault, after so many lines of a kind of which the first has that number: it is too long, or one too many; or else it has no
--- end, or is none of its kind
+-- the next line is at fault, after so many lines of a kind of which the first has that number: it
+-- is too long, or one too many; or else it has no end, or is none of its kind
 abbrev pub FaultsAtNext : ℕ → (List ℕ → Type 0) → ℕ → List ℕ → Fault → Type 0
-FaultsAtNext number IsNone count rest (TooLong line) = (line ≡ count + number) × ((512 < length (first_line rest)) ⊎ (count ≡ 4096))
+FaultsAtNext number IsNone count rest (TooLong line) =
+    (line ≡ count + number) × ((512 < length (first_line rest)) ⊎ (count ≡ 4096))
 FaultsAtNext number IsNone count rest (NotALine line) =
-    (line ≡ count + number) × (length (first_line rest) ≤ 512) × (count < 4096) × ((after_line rest ≡ None) ⊎ IsNone (first_line rest))
+    (line ≡ count + number)
+    × (length (first_line rest) ≤ 512)
+    × (count < 4096)
+    × ((after_line rest ≡ None) ⊎ IsNone (first_line rest))
 FaultsAtNext number IsNone count rest _ = ⊥
 
 -- some things are spelled line by line, and what follows is at fault after so many
-pub record FaultsAmong {A : Type 0} (spelling : A → List ℕ) (AreGood : List A → Type 0) (FaultsAfter : ℕ → List ℕ → Fault → Type 0) (text : List ℕ) (fault : Fault) : Type 0 where
+pub record FaultsAmong {A : Type 0} (spelling : A → List ℕ) (AreGood : List A → Type 0)
+    (FaultsAfter : ℕ → List ℕ → Fault → Type 0) (text : List ℕ) (fault : Fault) : Type 0 where
   pub before : List A
   pub rest : List ℕ
   pub good : AreGood before
@@ -120,14 +137,20 @@ pub record FaultsAmong {A : Type 0} (spelling : A → List ℕ) (AreGood : List 
 
 -- a line is there, and is at fault: steps begin at line 2
 abbrev pub FaultsAtStep : Version → ℕ → List ℕ → Fault → Type 0
-FaultsAtStep version count rest fault = (rest ≢ []) × FaultsAtNext 2 (IsNoStep version) count rest fault
+FaultsAtStep version count rest fault =
+    (rest ≢ []) × FaultsAtNext 2 (IsNoStep version) count rest fault
 
 -- the text is at fault: at its header, or else at the first line after it that is
 abbrev pub IsFaultOf : List ℕ → Fault → Type 0
 IsFaultOf text fault = FaultsAtHeader kinds.Schedule text fault
-    ⊎ ((header : Header) × (rest : List ℕ) × SpellsHeader kinds.Schedule text header rest × FaultsAmong step_text (AreSteps header.version) (FaultsAtStep header.version) rest fault)
+    ⊎ ((header : Header)
+    × (rest : List ℕ)
+    × SpellsHeader kinds.Schedule text header rest
+    × FaultsAmong step_text (AreSteps header.version) (FaultsAtStep header.version) rest fault)
 
 -- the schedule whose text it is, or the text's fault
 abbrev pub ReadsSchedule : List ℕ → Result Schedule Fault → Type 0
-ReadsSchedule text (Ok schedule) = (text ≡ schedule_text schedule.header schedule.steps.items) × IsSchedule schedule.header schedule.steps.items
+ReadsSchedule text (Ok schedule) =
+    (text ≡ schedule_text schedule.header schedule.steps.items)
+    × IsSchedule schedule.header schedule.steps.items
 ReadsSchedule text (Err fault) = FaultsBy (IsFaultOf text) fault

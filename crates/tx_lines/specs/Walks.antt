@@ -1,4 +1,5 @@
--- The text of a debugger: a schedule, the line `debug`, and commands; and where a text that is none is at fault.
+-- The text of a debugger: a schedule, the line `debug`, and commands; and where a text that is none
+-- is at fault.
 use Rattle.std.specs.Prelude.{◌≡◌, ◌≢◌, ℕ, ◌+◌, ◌<◌, ◌≤◌, ◌^◌, List, [], ◌∷◌, ◌++◌, length, All, None, Result, Ok, Err, ◌⊎◌, codes}
 use Rattle.std.specs.Fmt.{decimal}
 use Rattle.tx_base.specs.declared.steps.Step.{Step}
@@ -45,7 +46,8 @@ before_commands steps rest = steps_text steps ++ (debug_line ++ 10 ∷ rest)
 
 -- the whole text
 abbrev pub walk_text : Header → List Step → List Command → List ℕ
-walk_text header steps commands = header_text kinds.Schedule header ++ 10 ∷ before_commands steps (lines_of command_text commands)
+walk_text header steps commands =
+    header_text kinds.Schedule header ++ 10 ∷ before_commands steps (lines_of command_text commands)
 
 -- a text can hold these steps and commands after that header
 pub record IsWalk (header : Header) (steps : List Step) (commands : List Command) : Type 0 where
@@ -54,7 +56,8 @@ pub record IsWalk (header : Header) (steps : List Step) (commands : List Command
 
 -- no command of that version is spelled so
 abbrev pub IsNoCommand : Version → List ℕ → Type 0
-IsNoCommand version line = (command : Command) → FitsCommand version command → line ≢ command_text command
+IsNoCommand version line =
+    (command : Command) → FitsCommand version command → line ≢ command_text command
 
 -- neither a step of that version nor the line before the commands is spelled so
 abbrev pub IsNoLineBefore : Version → List ℕ → Type 0
@@ -66,36 +69,59 @@ pub record IsPastSteps (count : ℕ) (rest : List ℕ) : Type 0 where
   pub more : rest ≢ []
   pub other : first_line rest ≢ debug_line
 
--- the line after so many steps is at fault whatever it says, where the line before the commands is yet to come: it is too long, or one step too
--- many; or else it has no end, or is not there
+-- the line after so many steps is at fault whatever it says, where the line before the commands is
+-- yet to come: it is too long, or one step too many; or else it has no end, or is not there
 abbrev pub FaultsUnreadBefore : ℕ → List ℕ → Fault → Type 0
-FaultsUnreadBefore count rest (TooLong line) = (line ≡ count + 2) × ((512 < length (first_line rest)) ⊎ IsPastSteps count rest)
-FaultsUnreadBefore count rest (NotALine line) = (line ≡ count + 2) × (length (first_line rest) ≤ 512) × (IsPastSteps count rest → ⊥) × (after_line rest ≡ None)
+FaultsUnreadBefore count rest (TooLong line) =
+    (line ≡ count + 2) × ((512 < length (first_line rest)) ⊎ IsPastSteps count rest)
+FaultsUnreadBefore count rest (NotALine line) =
+    (line ≡ count + 2)
+    × (length (first_line rest) ≤ 512)
+    × (IsPastSteps count rest → ⊥)
+    × (after_line rest ≡ None)
 FaultsUnreadBefore count rest _ = ⊥
 
--- the line after so many steps is at fault, where the line before the commands is yet to come: it is too long, or one step too many; or else it
--- has no end, or is not there, or is neither a step nor that line
+-- the line after so many steps is at fault, where the line before the commands is yet to come: it
+-- is too long, or one step too many; or else it has no end, or is not there, or is neither a step
+-- nor that line
 abbrev pub FaultsBeforeCommands : Version → ℕ → List ℕ → Fault → Type 0
-FaultsBeforeCommands version count rest (TooLong line) = (line ≡ count + 2) × ((512 < length (first_line rest)) ⊎ IsPastSteps count rest)
+FaultsBeforeCommands version count rest (TooLong line) =
+    (line ≡ count + 2) × ((512 < length (first_line rest)) ⊎ IsPastSteps count rest)
 FaultsBeforeCommands version count rest (NotALine line) =
-    (line ≡ count + 2) × (length (first_line rest) ≤ 512) × (IsPastSteps count rest → ⊥) × ((after_line rest ≡ None) ⊎ IsNoLineBefore version (first_line rest))
+    (line ≡ count + 2)
+    × (length (first_line rest) ≤ 512)
+    × (IsPastSteps count rest → ⊥)
+    × ((after_line rest ≡ None) ⊎ IsNoLineBefore version (first_line rest))
 FaultsBeforeCommands version count rest _ = ⊥
 
 -- after so many commands a line is there, and is at fault: commands begin at that line
 abbrev pub FaultsAtCommand : Version → ℕ → ℕ → List ℕ → Fault → Type 0
-FaultsAtCommand version number count rest fault = (rest ≢ []) × FaultsAtNext number (IsNoCommand version) count rest fault
+FaultsAtCommand version number count rest fault =
+    (rest ≢ []) × FaultsAtNext number (IsNoCommand version) count rest fault
 
 -- the text after a header of that version is at fault, before its commands or among them
 abbrev pub FaultsAfterHeader : Version → List ℕ → Fault → Type 0
-FaultsAfterHeader version text fault = FaultsAmong step_text (AreSteps version) (FaultsBeforeCommands version) text fault
-    ⊎ ((steps : List Step) × (rest : List ℕ) × AreSteps version steps × (text ≡ before_commands steps rest) × FaultsAmong command_text (AreCommands version) (FaultsAtCommand version (length steps + 3)) rest fault)
+FaultsAfterHeader version text fault =
+    FaultsAmong step_text (AreSteps version) (FaultsBeforeCommands version) text fault
+    ⊎ ((steps : List Step)
+    × (rest : List ℕ)
+    × AreSteps version steps
+    × (text ≡ before_commands steps rest)
+    × FaultsAmong command_text (AreCommands version) (FaultsAtCommand version (length steps + 3))
+    rest fault)
 
 -- the text is at fault: at its header, or else at the first line after it that is
 abbrev pub IsWalkFault : List ℕ → Fault → Type 0
-IsWalkFault text fault = FaultsAtHeader kinds.Schedule text fault ⊎ ((header : Header) × (rest : List ℕ) × SpellsHeader kinds.Schedule text header rest × FaultsAfterHeader header.version rest fault)
+IsWalkFault text fault =
+    FaultsAtHeader kinds.Schedule text fault
+    ⊎ ((header : Header)
+    × (rest : List ℕ)
+    × SpellsHeader kinds.Schedule text header rest
+    × FaultsAfterHeader header.version rest fault)
 
 -- the schedule and the commands whose text it is, or the text's fault
 abbrev pub ReadsWalk : List ℕ → Result Walk Fault → Type 0
 ReadsWalk text (Ok walk) =
-    (text ≡ walk_text walk.schedule.header walk.schedule.steps.items walk.commands.items) × IsWalk walk.schedule.header walk.schedule.steps.items walk.commands.items
+    (text ≡ walk_text walk.schedule.header walk.schedule.steps.items walk.commands.items)
+    × IsWalk walk.schedule.header walk.schedule.steps.items walk.commands.items
 ReadsWalk text (Err fault) = FaultsBy (IsWalkFault text) fault

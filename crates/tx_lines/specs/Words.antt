@@ -9,7 +9,8 @@ with_front byte (Some parts) = Some (byte ∷ parts.0, parts.1)
 -- the text before the first byte of that kind, and the text after it
 abbrev pub parts_at : ℕ → List ℕ → Option (List ℕ × List ℕ)
 parts_at mark [] = None
-parts_at mark (byte ∷ bytes) = if nat_eq byte mark then Some ([], bytes) else with_front byte (parts_at mark bytes)
+parts_at mark (byte ∷ bytes) =
+    if nat_eq byte mark then Some ([], bytes) else with_front byte (parts_at mark bytes)
 
 -- the text before the first space, and the text after it
 abbrev pub first_word : List ℕ → Option (List ℕ × List ℕ)

@@ -31,19 +31,21 @@ abbrev pub delivers_kill : Step → Bool
 delivers_kill (Deliver p signo) = signo.0 == kill_signo
 delivers_kill step = false
 
--- whether a chosen number is out of range, or one is chosen twice: processes are 1 to the width, pipes 0 to 31,
--- descriptions 0 to 63
+-- whether a chosen number is out of range, or one is chosen twice: processes are 1 to the width,
+-- pipes 0 to 31, descriptions 0 to 63
 abbrev pub is_bad_choice : ℕ → Choice → Bool
 is_bad_choice width ChoosesNothing = false
 is_bad_choice width (ChoosesProcess child) = not (is_between width child)
-is_bad_choice width (ChoosesPipe q r w) = not (nat_lt q PIPES && nat_lt r DESCRIPTIONS && nat_lt w DESCRIPTIONS) || r == w
+is_bad_choice width (ChoosesPipe q r w) =
+    not (nat_lt q PIPES && nat_lt r DESCRIPTIONS && nat_lt w DESCRIPTIONS) || r == w
 
 abbrev pub is_choice_in_use : State → Choice → Bool
 is_choice_in_use S ChoosesNothing = false
 is_choice_in_use S (ChoosesProcess child) = is_some (S.procs child)
 is_choice_in_use S (ChoosesPipe q r w) = is_pipe_in_use q r w S
 
--- at an abort its status. A call that waits and a delivery that can't be made are refused by their rules
+-- at an abort its status. A call that waits and a delivery that can't be made are refused by their
+-- rules
 abbrev pub plain_reply : ℕ → Role → Event → State → Reply
 plain_reply status (Aborts s k) ev S = Aborted status
 plain_reply status other ev S = reply_of ev S
@@ -76,11 +78,14 @@ module _ (V : View) where
     Some (Busy (record { 0 = starter }))
 
   abbrev pub accepted_reply : Step → Reply
-  accepted_reply step = plain_reply (abort_status V step) (role_on V step) (event_on V step) (present V)
+  accepted_reply step =
+      plain_reply (abort_status V step) (role_on V step) (event_on V step) (present V)
 
   unfoldable pub answer : Step → Reply
-  answer (KernelAbort s) = if is_live V.table s.0 then Aborted (kernel_status V s.0) else No NoTransaction
-  answer step = elim (refusal (process_of step) step) [ None ↦ accepted_reply step | Some why ↦ No why ]
+  answer (KernelAbort s) =
+      if is_live V.table s.0 then Aborted (kernel_status V s.0) else No NoTransaction
+  answer step =
+      elim (refusal (process_of step) step) [ None ↦ accepted_reply step | Some why ↦ No why ]
 
 module _ (S : State) where
   -- each reply is the accepted answer to its step on the view of the entries before it
@@ -88,12 +93,15 @@ module _ (S : State) where
   Lawful [] = Unit {0}
   Lawful (e ∷ h) = Lawful h × (answer (view S h) e.step ≡ e.reply) × IsAccepted e.reply
 
-  -- at each place whose step survives without X, the reply is that of its event in the plain run of the survivors
+  -- at each place whose step survives without X, the reply is that of its event in the plain run of
+  -- the survivors
   unfoldable pub AgreesWithout : Starters → List Accepted → Type 0
   AgreesWithout X [] = Unit {0}
   AgreesWithout X (e ∷ h) =
       (is_left_in (role_in S e h) X ≡ true
-      → e.reply ≡ plain_reply (abort_status (view S h) e.step) (role_in S e h) (event_of S e h) (without S (left_out_before (role_in S e h) X) h))
+      → e.reply
+      ≡ plain_reply (abort_status (view S h) e.step) (role_in S e h) (event_of S e h)
+      (without S (left_out_before (role_in S e h) X) h))
       × AgreesWithout (left_out_before (role_in S e h) X) h
 
   abbrev pub Agreement : List Accepted → Type 0

@@ -18,10 +18,10 @@ use Rattle.tx_model.specs.Numbers.{below, error_answer, negative}
 use Rattle.tx_model.specs.SignalSets.{kill_signo, maskable, broken_pipe_signo}
 use Rattle.tx_model.specs.Memory.{Memory, page_at, zero_page, is_good, is_mapped, is_writable, stored_memory, loaded_byte, bytes_at, address_of}
 use Rattle.tx_model.specs.State.{with_slots, Ids, Process, Side, ReadSide, WriteSide, Description, State, Object, SetProc, SetDesc, SetPipe, SetHeld, write_one, Sender, Sending, Proc, Desc, Pipe}
-use Rattle.tx_model.specs.Effects.{Inside, with_answer, Effect, Replies}
+use Rattle.tx_model.specs.Effects.{with_answer, Effect, Replies}
 use Rattle.tx_model.specs.Signals.{known_signal, changed_mask, pending_signals, newest_frame, with_frame, is_bad_action, disposition, is_ignoring, with_action, without_signal}
 use Rattle.tx_model.specs.Descriptors.{description_named, descriptor, lowest_free, with_descriptor, removals, is_pipe_in_use, option_list, desc_objects, desc_pipe_objects, open_in, other_than, has_side}
-use Rattle.tx_model.specs.Processes.{child_of, ending, exit_status, pid_of, ending_objects, held_objects, procs_of}
+use Rattle.tx_model.specs.Processes.{child_of, ending, exit_status, holder_of, pid_of, ending_objects, held_objects, procs_of}
 use Rattle.tx_model.specs.Forms.{Caller, Rule, fails, answers, changes, stands, posts, refuses, does, ◌or◌, ◌>>=◌, ◌when◌, ◌>>◌, Page, page, page_naming, ChoosesProcess, ChoosesPipe, Forking, Beginning, Leaving, Aborting}
 
 -- the answer of a call that is not open inside a transaction (own number)
@@ -86,7 +86,8 @@ waitpid t nohang c = do
   q ← c.state.procs child or fails NoChild
   fails NoChild when not (q.parent == c.number)
   status ← q.status or (if nohang then answers (pos 0) else refuses Wait)
-  changes (pos child) (with_slots (slice_set c.process.registers.slots 0 (pos status)) c.process) (SetProc child None ∷ [])
+  changes (pos child) (with_slots (slice_set c.process.registers.slots 0 (pos status)) c.process)
+      (SetProc child None ∷ [])
 
 -- C. Ids
 
@@ -110,7 +111,8 @@ abbrev pub setuid : ℤ → Rule
 setuid v c = do
   let ids = c.process.ids
   u ← id_of v or fails InvalidArgument
-  with_ids (record ids { real_user = u; effective_user = u; saved_user = u }) c when is_privileged ids
+  let users = record ids { real_user = u; effective_user = u; saved_user = u }
+  with_ids users c when is_privileged ids
   with_ids (record ids { effective_user = u }) c when is_own_user u ids
   fails NotPermitted
 
@@ -127,7 +129,8 @@ abbrev pub setgid : ℤ → Rule
 setgid v c = do
   let ids = c.process.ids
   g ← id_of v or fails InvalidArgument
-  with_ids (record ids { real_group = g; effective_group = g; saved_group = g }) c when is_privileged ids
+  let groups = record ids { real_group = g; effective_group = g; saved_group = g }
+  with_ids groups c when is_privileged ids
   with_ids (record ids { effective_group = g }) c when is_own_group g ids
   fails NotPermitted
 
@@ -171,7 +174,8 @@ abbrev pub description_at : ℤ → Caller → Option ℕ
 description_at f c = description_named c.process (descriptor f)
 
 abbrev pub release : List ℕ → ℤ → Process → Rule
-release ds r q c = changes r q (removals ds (write_one (SetProc c.number (Some (with_answer r q))) c.state))
+release ds r q c =
+    changes r q (removals ds (write_one (SetProc c.number (Some (with_answer r q))) c.state))
 
 -- the schedule chooses the numbers of the pipe and of its ends (XSH, pipe())
 abbrev pub pipe : ℕ → ℕ → ℕ → Rule
@@ -180,7 +184,10 @@ pipe q r w c = do
   f ← lowest_free c.process or fails TooManyDescriptors
   let one = with_descriptor f (Some r) c.process
   g ← lowest_free one or fails TooManyDescriptors
-  let ends = SetPipe q (Some []) ∷ SetDesc r (Some (record { pipe = q; side = ReadSide; nonblock = false })) ∷ SetDesc w (Some (record { pipe = q; side = WriteSide; nonblock = false })) ∷ []
+  let ends =
+      SetPipe q (Some [])
+      ∷ SetDesc r (Some (record { pipe = q; side = ReadSide; nonblock = false }))
+      ∷ SetDesc w (Some (record { pipe = q; side = WriteSide; nonblock = false })) ∷ []
   let slots = slice_set (slice_set c.process.registers.slots 0 (pos f)) 1 (pos g)
   changes (pos 0) (with_slots slots (with_descriptor g (Some w) one)) ends
 
@@ -198,7 +205,8 @@ dup2 a b c = do
   d ← description_named c.process (Some f) or fails BadDescriptor
   g ← descriptor b or fails BadDescriptor
   answers (pos g) when f == g
-  release (option_list (description_named c.process (Some g))) (pos g) (with_descriptor g (Some d) c.process) c
+  release (option_list (description_named c.process (Some g))) (pos g)
+      (with_descriptor g (Some d) c.process) c
 
 -- XSH, close()
 abbrev pub close : ℤ → Rule
@@ -242,7 +250,8 @@ read f address v c = do
   refuses Wait when is_empty bytes
   let m = min n (length bytes)
   let memory = stored_memory c.process.memory (address_of address) (take m bytes)
-  changes (pos m) (record c.process { memory = memory }) (SetPipe end.pipe (Some (drop m bytes)) ∷ [])
+  changes (pos m) (record c.process { memory = memory })
+      (SetPipe end.pipe (Some (drop m bytes)) ∷ [])
 
 -- bytes at an address are appended to those of a pipe, all or none (XSH, write())
 abbrev pub write : ℤ → ℤ → ℤ → Rule
@@ -256,7 +265,8 @@ write f address v c = do
   let is_full = nat_lt PIPE_BYTES (length bytes + n)
   fails TryAgain when is_full && end.nonblock
   refuses Wait when is_full
-  changes (pos n) c.process (SetPipe end.pipe (Some (bytes ++ bytes_at c.process.memory (address_of address) n)) ∷ [])
+  changes (pos n) c.process
+      (SetPipe end.pipe (Some (bytes ++ bytes_at c.process.memory (address_of address) n)) ∷ [])
 
 -- E. Signals
 
@@ -276,12 +286,12 @@ sendable (negsuc n) = None
 
 abbrev pub sending_from : Process → ℕ → ℕ → ℤ → Sending
 sending_from me t signo value =
-    record { target = t; signo = signo; value = value; from = Some (record { real = me.ids.real_user; effective = me.ids.effective_user }) }
-
--- the transaction that holds a send until its commit: its sender is a member, and its target is none
-abbrev pub holder_of : ℕ → Option Inside → Option Inside
-holder_of target None = None
-holder_of target (Some inside) = if inside.members target then None else Some inside
+    record {
+      target = t;
+      signo = signo;
+      value = value;
+      from = Some (record { real = me.ids.real_user; effective = me.ids.effective_user });
+    }
 
 -- XSH, sigqueue()
 abbrev pub sigqueue : ℤ → ℤ → ℤ → Rule
@@ -304,11 +314,15 @@ abbrev pub sigaction : ℤ → Action → Rule
 sigaction s action c = do
   signo ← known_signal s or fails InvalidArgument
   fails InvalidArgument when signo == kill_signo || is_bad_action action
-  changes (pos 0) (with_action signo action (if is_ignoring (disposition signo action) then without_signal signo c.process else c.process)) []
+  let ignores = is_ignoring (disposition signo action)
+  let me = if ignores then without_signal signo c.process else c.process
+  changes (pos 0) (with_action signo action me) []
 
 -- XSH, sigprocmask()
 abbrev pub sigprocmask : How → SigSet → Rule
-sigprocmask how set c = changes (pos 0) (record c.process { mask = maskable (changed_mask how (bits_of set) c.process.mask) }) []
+sigprocmask how set c =
+    changes (pos 0)
+    (record c.process { mask = maskable (changed_mask how (bits_of set) c.process.mask) }) []
 
 -- the pending signals that are blocked, as a number (XSH, sigpending())
 abbrev pub sigpending : Rule
@@ -332,7 +346,8 @@ console_write address v c = do
   answers closed_inside when is_some c.inside
   n ← below (CONSOLE_BYTES + 1) v or fails InvalidArgument
   fails BadAddress when not (is_good is_mapped c.process.memory address n)
-  stands (with_answer (pos n) c.process) (Out (record { items = bytes_at c.process.memory (address_of address) n }))
+  stands (with_answer (pos n) c.process)
+      (Out (record { items = bytes_at c.process.memory (address_of address) n }))
 
 -- the last answer stays and is the answer
 abbrev pub jump : ℕ → When → Rule
@@ -363,24 +378,33 @@ page_of_call (call.Unmap n) = page (unmap n)
 page_of_call (call.Protect n writable) = page (protect n writable)
 page_of_call (call.Store address bytes) = page (store address bytes.items)
 page_of_call (call.Load address) = page (load address)
-page_of_call (call.Fork n) = record (page_naming (fork n.0) (λ c. Proc n.0 ∷ desc_objects (open_in c.process.descriptors))) { chooses = ChoosesProcess n.0; kind = Forking n.0 }
-page_of_call (call.Exit status) = page_naming (exit status) (λ c. if c.number == 1 then [] else ending_objects c)
-page_of_call (call.Waitpid t nohang) = page_naming (waitpid t nohang) (λ c. procs_of (option_list (pid_of c.state.width t)))
+page_of_call (call.Fork n) =
+    record (page_naming (fork n.0) (λ c. Proc n.0 ∷ desc_objects (open_in c.process.descriptors)))
+    { chooses = ChoosesProcess n.0; kind = Forking n.0 }
+page_of_call (call.Exit status) =
+    page_naming (exit status) (λ c. if c.number == 1 then [] else ending_objects c)
+page_of_call (call.Waitpid t nohang) =
+    page_naming (waitpid t nohang) (λ c. procs_of (option_list (pid_of c.state.width t)))
 page_of_call call.Getpid = page (λ c. answers (pos c.number))
 page_of_call call.Getppid = page (λ c. answers (pos c.process.parent))
 page_of_call (call.Setuid u) = page (setuid u)
 page_of_call (call.Seteuid u) = page (seteuid u)
 page_of_call (call.Setgid g) = page (setgid g)
 page_of_call (call.Setegid g) = page (setegid g)
-page_of_call (call.Pipe q r w) = record (page_naming (pipe q.0 r.0 w.0) (λ c. Pipe q.0 ∷ Desc r.0 ∷ Desc w.0 ∷ [])) { chooses = ChoosesPipe q.0 r.0 w.0 }
+page_of_call (call.Pipe q r w) =
+    record (page_naming (pipe q.0 r.0 w.0) (λ c. Pipe q.0 ∷ Desc r.0 ∷ Desc w.0 ∷ []))
+    { chooses = ChoosesPipe q.0 r.0 w.0 }
 page_of_call (call.Dup f) = page_naming (dup f) (desc_of f)
-page_of_call (call.Dup2 f g) = page_naming (dup2 f g) (λ c. desc_of f c ++ desc_pipe_objects (other_than (descriptor f) (descriptor g) c.process) c.state)
+page_of_call (call.Dup2 f g) =
+    page_naming (dup2 f g) λ c.
+    desc_of f c ++ desc_pipe_objects (other_than (descriptor f) (descriptor g) c.process) c.state
 page_of_call (call.Close f) = page_naming (close f) (desc_and_pipe_of f)
 page_of_call (call.SetNonblock f on) = page_naming (set_nonblock f on) (desc_of f)
 page_of_call (call.Read f address n) = page_naming (read f address n) (desc_and_pipe_of f)
 page_of_call (call.Write f address n) = page_naming (write f address n) (desc_and_pipe_of f)
 page_of_call (call.Kill t s) = page_naming (kill t s) (λ c. held_objects c.inside)
-page_of_call (call.Sigqueue t s value) = page_naming (sigqueue t s value) (λ c. held_objects c.inside)
+page_of_call (call.Sigqueue t s value) =
+    page_naming (sigqueue t s value) (λ c. held_objects c.inside)
 page_of_call (call.Sigaction s action) = page (sigaction s action)
 page_of_call (call.Sigprocmask how set) = page (sigprocmask how set)
 page_of_call call.Sigpending = page sigpending
@@ -389,6 +413,7 @@ page_of_call (call.ConsoleWrite address n) = page (console_write address n)
 page_of_call (call.Jump point if_so) = page (jump point if_so)
 page_of_call (call.Keep slot) = page (keep slot)
 page_of_call call.SysXbegin = record (page (λ c. fails InvalidArgument)) { kind = Beginning false }
-page_of_call call.SysXbeginDefer = record (page (λ c. fails InvalidArgument)) { kind = Beginning true }
+page_of_call call.SysXbeginDefer =
+    record (page (λ c. fails InvalidArgument)) { kind = Beginning true }
 page_of_call call.SysXend = record (page (λ c. fails InvalidArgument)) { kind = Leaving }
 page_of_call call.SysXabort = record (page (λ c. fails InvalidArgument)) { kind = Aborting }

@@ -1,5 +1,5 @@
--- The delivery of a pending signal (POSIX.1-2017, XSH, Signal Generation and Delivery). Which one is delivered, and
--- when, is the schedule's choice (own rule).
+-- The delivery of a pending signal (POSIX.1-2017, XSH, Signal Generation and Delivery). Which one
+-- is delivered, and when, is the schedule's choice (own rule).
 use Rattle.std.specs.Prelude.{ℕ, ◌+◌, Bool, false, not, ◌&&◌, ◌||◌, List, [], ◌∷◌, ◌++◌, length, ℤ, pos, Option, Some, None, if◌then◌else◌, nat_lt, ◌==◌, bit_or, slice_index_or, true}
 use Rattle.tx_base.specs.Signals.{bits_of}
 use Rattle.tx_base.specs.declared.signals.Action.{Action}
@@ -27,20 +27,25 @@ is_deferred (Some inside) signo = inside.defers && not (signo == kill_signo)
 module _ (signo : ℕ) where
   unfoldable pub first_value : List Queued → Option ℤ
   first_value [] = None
-  first_value (entry ∷ entries) = if entry.signo == signo then Some entry.value else first_value entries
+  first_value (entry ∷ entries) =
+      if entry.signo == signo then Some entry.value else first_value entries
 
   unfoldable pub without_first : List Queued → List Queued
   without_first [] = []
-  without_first (entry ∷ entries) = if entry.signo == signo then entries else entry ∷ without_first entries
+  without_first (entry ∷ entries) =
+      if entry.signo == signo then entries else entry ∷ without_first entries
 
   -- a realtime signal of a lower number is pending outside the mask
   unfoldable pub has_lower : ℕ → List Queued → Bool
   has_lower mask [] = false
-  has_lower mask (entry ∷ entries) = (nat_lt entry.signo signo && not (is_in_set mask entry.signo)) || has_lower mask entries
+  has_lower mask (entry ∷ entries) =
+      (nat_lt entry.signo signo && not (is_in_set mask entry.signo)) || has_lower mask entries
 
   abbrev pub pending_value : Process → Option ℤ
   pending_value me =
-      if is_realtime signo then first_value me.queued else (if is_in_set me.pending signo then Some (pos 0) else None)
+      if is_realtime signo
+      then first_value me.queued
+      else (if is_in_set me.pending signo then Some (pos 0) else None)
 
   abbrev pub is_blocked : Process → Bool
   is_blocked me = is_in_set me.mask signo || (is_realtime signo && has_lower me.mask me.queued)
@@ -83,11 +88,17 @@ module _ (signo : ℕ) where
   delivery c = do
     value ← delivered_value c.process or refuses NotDeliverable
     refuses Deferred when is_deferred c.inside signo
-    reaction value (disposition signo (action_at c.process)) (record c { process = without_delivered c.process })
+    reaction value (disposition signo (action_at c.process))
+        (record c { process = without_delivered c.process })
 
 abbrev pub ends_by : Option Inside → ℕ → Process → Option ℤ → Bool
 ends_by inside signo me None = false
-ends_by inside signo me (Some value) = if is_deferred inside signo then false else is_killing (disposition signo (action_at signo me))
+ends_by inside signo me (Some value) =
+    if is_deferred inside signo then false else is_killing (disposition signo (action_at signo me))
 
 abbrev pub delivery_page : ℕ → Page
-delivery_page signo = page_naming (delivery signo) (λ c. if ends_by c.inside signo c.process (delivered_value signo c.process) then ending_objects c else [])
+delivery_page signo =
+    page_naming (delivery signo) λ c.
+    if ends_by c.inside signo c.process (delivered_value signo c.process)
+    then ending_objects c
+    else []

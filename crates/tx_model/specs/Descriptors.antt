@@ -1,5 +1,5 @@
--- Descriptors, and the descriptions and pipes that are there while something names them (POSIX.1-2017, XBD, File
--- Descriptor and Open File Description).
+-- Descriptors, and the descriptions and pipes that are there while something names them
+-- (POSIX.1-2017, XBD, File Descriptor and Open File Description).
 use Rattle.std.specs.Prelude.{ℕ, zero, suc, ◌+◌, Bool, true, false, List, [], ◌∷◌, ◌++◌, ℤ, Option, Some, None, map, is_some, if◌then◌else◌, ◌==◌, slice_index_or, slice_set}
 use Rattle.tx_base.specs.declared.limits.TheConstants.{DESCRIPTIONS, DESCRIPTORS}
 use Rattle.tx_model.specs.Numbers.{below}
@@ -35,7 +35,8 @@ some_below P zero = false
 some_below P (suc n) = if some_below P n then true else P n
 
 abbrev pub is_named : ℕ → State → Bool
-is_named d S = some_below (λ q. some_below (λ f. names_at d f (S.procs q)) DESCRIPTORS) (S.width + 1)
+is_named d S =
+    some_below (λ q. some_below (λ f. names_at d f (S.procs q)) DESCRIPTORS) (S.width + 1)
 
 abbrev pub is_side : (Side → Bool) → Option Side → Bool
 is_side test None = false
@@ -58,23 +59,30 @@ pipes_of (d ∷ ds) S = pipe_of (S.descs d) ++ pipes_of ds S
 
 unfoldable pub description_removals : List ℕ → State → List Write
 description_removals [] S = []
-description_removals (d ∷ ds) S = if is_named d S then description_removals ds S else SetDesc d None ∷ description_removals ds S
+description_removals (d ∷ ds) S =
+    if is_named d S then description_removals ds S else SetDesc d None ∷ description_removals ds S
 
 -- a pipe that no description names goes with its bytes
 unfoldable pub pipe_removals : List ℕ → State → List Write
 pipe_removals [] S = []
-pipe_removals (k ∷ ks) S = if has_description k S then pipe_removals ks S else SetPipe k None ∷ pipe_removals ks S
+pipe_removals (k ∷ ks) S =
+    if has_description k S then pipe_removals ks S else SetPipe k None ∷ pipe_removals ks S
 
 -- what goes when names of these descriptions were given up
 abbrev pub removals : List ℕ → State → List Write
-removals ds S = description_removals ds S ++ pipe_removals (pipes_of ds S) (with_writes (description_removals ds S) S)
+removals ds S =
+    description_removals ds S
+    ++ pipe_removals (pipes_of ds S) (with_writes (description_removals ds S) S)
 
 abbrev pub option_list : Option ℕ → List ℕ
 option_list None = []
 option_list (Some d) = d ∷ []
 
 abbrev pub is_pipe_in_use : ℕ → ℕ → ℕ → State → Bool
-is_pipe_in_use q r w S = if is_some (S.pipes q) then true else (if is_some (S.descs r) then true else is_some (S.descs w))
+is_pipe_in_use q r w S =
+    if is_some (S.pipes q)
+    then true
+    else (if is_some (S.descs r) then true else is_some (S.descs w))
 
 abbrev pub desc_objects : List ℕ → List Object
 desc_objects = map Desc

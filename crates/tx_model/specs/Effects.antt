@@ -28,7 +28,8 @@ abbrev pub next_point : ℕ → ℕ
 next_point point = if nat_lt point LAST_POINT then point + 1 else point
 
 abbrev pub with_answer : ℤ → Process → Process
-with_answer r q = record q { registers = record q.registers { point = next_point q.registers.point; ret = r } }
+with_answer r q =
+    record q { registers = record q.registers { point = next_point q.registers.point; ret = r } }
 
 abbrev pub with_answer_if : ℤ → Option Process → Option Process
 with_answer_if r = option_map (with_answer r)
@@ -44,7 +45,8 @@ abbrev pub idle : Refusal → Effect
 idle why = record { writes = []; sends = []; conclusion = Replies (No why) }
 
 abbrev pub process_effect : ℕ → Process → List Write → Reply → Effect
-process_effect p q writes reply = record { writes = SetProc p (Some q) ∷ writes; sends = []; conclusion = Replies reply }
+process_effect p q writes reply =
+    record { writes = SetProc p (Some q) ∷ writes; sends = []; conclusion = Replies reply }
 
 -- by its number less one
 abbrev pub failed_errno : ℕ → Errno
@@ -54,14 +56,21 @@ abbrev pub failed_sends : List Sending → List ℤ → List Missed
 failed_sends [] rs = []
 failed_sends (m ∷ ms) [] = []
 failed_sends (m ∷ ms) (pos n ∷ rs) = failed_sends ms rs
-failed_sends (m ∷ ms) (negsuc n ∷ rs) = record { target = record { 0 = m.target }; signo = record { 0 = m.signo }; errno = failed_errno n } ∷ failed_sends ms rs
+failed_sends (m ∷ ms) (negsuc n ∷ rs) =
+    record {
+      target = record { 0 = m.target };
+      signo = record { 0 = m.signo };
+      errno = failed_errno n;
+    }
+    ∷ failed_sends ms rs
 
 abbrev pub first_answer : List ℤ → ℤ
 first_answer [] = pos 0
 first_answer (r ∷ rs) = r
 
 abbrev pub after_conclusion : Conclusion → List ℤ → State → State
-after_conclusion (AnswersPost p) rs S = write_one (SetProc p (with_answer_if (first_answer rs) (S.procs p))) S
+after_conclusion (AnswersPost p) rs S =
+    write_one (SetProc p (with_answer_if (first_answer rs) (S.procs p))) S
 after_conclusion conclusion rs S = S
 
 abbrev pub concluding_reply : Conclusion → List Sending → List ℤ → Reply
@@ -74,8 +83,14 @@ send_answers f S = post_answers f.sends (with_writes f.writes S)
 
 -- the state after it, where its posts answer so
 abbrev pub after_effect : Effect → List ℤ → State → State
-after_effect f rs S = after_conclusion f.conclusion rs (after_posts f.sends (with_writes f.writes S))
+after_effect f rs S =
+    after_conclusion f.conclusion rs (after_posts f.sends (with_writes f.writes S))
 
 -- the step that commits the transaction of s: what was held is posted
 abbrev pub commit_effect : ℕ → Effect → State → Effect
-commit_effect s f S = record { writes = f.writes ++ SetHeld s [] ∷ []; sends = f.sends ++ (with_writes f.writes S).held s; conclusion = ListsFailed }
+commit_effect s f S =
+    record {
+      writes = f.writes ++ SetHeld s [] ∷ [];
+      sends = f.sends ++ (with_writes f.writes S).held s;
+      conclusion = ListsFailed;
+    }

@@ -53,7 +53,12 @@ step_effect step inside S = effect_at inside (process_of step) (page_of_step ste
 
 unfoldable pub effect : Event → State → Effect
 effect (Do step inside) S = step_effect step inside S
-effect (Note p r) S = record { writes = SetProc p (with_answer_if r (S.procs p)) ∷ []; sends = []; conclusion = Replies (Done r) }
+effect (Note p r) S =
+    record {
+      writes = SetProc p (with_answer_if r (S.procs p)) ∷ [];
+      sends = [];
+      conclusion = Replies (Done r);
+    }
 effect (Commit s ev) S = commit_effect s (effect ev S) S
 
 unfoldable pub objects : Event → State → List Object
@@ -65,7 +70,8 @@ unfoldable pub after : Event → State → State
 after ev S = after_effect (effect ev S) (send_answers (effect ev S) S) S
 
 unfoldable pub reply_of : Event → State → Reply
-reply_of ev S = concluding_reply (effect ev S).conclusion (effect ev S).sends (send_answers (effect ev S) S)
+reply_of ev S =
+    concluding_reply (effect ev S).conclusion (effect ev S).sends (send_answers (effect ev S) S)
 
 -- the newest event first
 unfoldable pub run : State → List Event → State

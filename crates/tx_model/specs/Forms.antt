@@ -39,7 +39,8 @@ Rule = Caller → Outcome
 
 -- every answer but that of `stands` moves the process to its next point
 abbrev pub effect_of : ℕ → Process → Outcome → Effect
-effect_of p me (fails errno) = process_effect p (with_answer (error_answer errno) me) [] (Done (error_answer errno))
+effect_of p me (fails errno) =
+    process_effect p (with_answer (error_answer errno) me) [] (Done (error_answer errno))
 effect_of p me (answers r) = process_effect p (with_answer r me) [] (Done r)
 effect_of p me (changes r q writes) = process_effect p (with_answer r q) writes (Done r)
 effect_of p me (stands q reply) = process_effect p q [] reply
@@ -86,7 +87,8 @@ pub record Page : Type 0 where
   pub kind : Kind
 
 abbrev pub page : Rule → Page
-page outcome = record { outcome = outcome; names = λ c. []; chooses = ChoosesNothing; kind = Ordinary }
+page outcome =
+    record { outcome = outcome; names = λ c. []; chooses = ChoosesNothing; kind = Ordinary }
 
 abbrev pub page_naming : Rule → (Caller → List Object) → Page
 page_naming outcome names = record (page outcome) { names = names }

@@ -7,10 +7,15 @@ use Rattle.tx_model.specs.View.{View, present, least}
 
 -- whether the object is reserved by a live transaction that the process is no member of
 abbrev pub is_reserved_from : View → ℕ → Object → Bool
-is_reserved_from V p o = is_some (least (λ s. is_live V.table s && (not (is_member_of V.table s p) && V.reserved s o)) V.table.width)
+is_reserved_from V p o =
+    is_some
+    (least (λ s. is_live V.table s && (not (is_member_of V.table s p) && V.reserved s o))
+    V.table.width)
 
 abbrev pub is_free_process : View → ℕ → ℕ → Bool
-is_free_process V p n = is_between V.table.width n && (is_none ((present V).procs n) && not (is_reserved_from V p (Proc n)))
+is_free_process V p n =
+    is_between V.table.width n
+    && (is_none ((present V).procs n) && not (is_reserved_from V p (Proc n)))
 
 abbrev pub is_free_pipe : View → ℕ → ℕ → Bool
 is_free_pipe V p k = is_none ((present V).pipes k) && not (is_reserved_from V p (Pipe k))
@@ -30,9 +35,11 @@ is_other_than (Some m) n = not (n == m)
 
 -- the two least descriptions that are free
 abbrev pub least_two : (ℕ → Bool) → ℕ → Option (ℕ × ℕ)
-least_two P last = with_second (least P last) (least (λ n. P n && is_other_than (least P last) n) last)
+least_two P last =
+    with_second (least P last) (least (λ n. P n && is_other_than (least P last) n) last)
 
--- the least numbers that are free (pipes are 0 to 31, descriptions 0 to 63), and reserved by no transaction of others: a process, a pipe, and two descriptions
+-- the least numbers that are free (pipes are 0 to 31, descriptions 0 to 63), and reserved by no
+-- transaction of others: a process, a pipe, and two descriptions
 pub record Free : Type 0 where
   pub proc : Option ℕ
   pub pipe : Option ℕ

@@ -1,4 +1,5 @@
--- Histories, the newest accepted step first, and what is left of them without some transactions. Own rules.
+-- Histories, the newest accepted step first, and what is left of them without some transactions.
+-- Own rules.
 use Rattle.std.specs.Prelude.{ℕ, Bool, true, false, not, List, [], ◌∷◌, ◌++◌, if◌then◌else◌, ◌==◌}
 use Rattle.tx_base.specs.declared.steps.Accepted.{Accepted}
 use Rattle.tx_model.specs.State.{State, Sending, Object, Proc, Held, has_object}
@@ -15,8 +16,8 @@ nobody n = false
 abbrev pub just : ℕ → Starters
 just s n = n == s
 
--- whose transactions are left out before a step, when those of X are left out after it: an aborted one is left out back to its
--- begin, a committed one is kept back to its begin
+-- whose transactions are left out before a step, when those of X are left out after it: an aborted
+-- one is left out back to its begin, a committed one is kept back to its begin
 abbrev pub left_out_before : Role → Starters → Starters
 left_out_before (Commits s) X = λ n. if n == s then false else X n
 left_out_before (Aborts s status) X = λ n. if n == s then true else X n
@@ -38,7 +39,8 @@ module _ (S : State) where
   abbrev pub event_of : Accepted → List Accepted → Event
   event_of e h = event (table_of h) e.step e.reply
 
-  -- what is left of the history without the live transactions of X, and without those that were aborted
+  -- what is left of the history without the live transactions of X, and without those that were
+  -- aborted
   unfoldable pub survivors : Starters → List Accepted → List Event
   survivors X [] = []
   survivors X (e ∷ h) =
@@ -56,7 +58,8 @@ module _ (t : Table) where
   -- of posts, except the starters of other transactions
   unfoldable pub targets : ℕ → List Sending → List Object
   targets p [] = []
-  targets p (m ∷ ms) = if is_other_starter p m.target then targets p ms else Proc m.target ∷ targets p ms
+  targets p (m ∷ ms) =
+      if is_other_starter p m.target then targets p ms else Proc m.target ∷ targets p ms
 
   -- what an event names, and the targets of its posts
   unfoldable pub event_footprint : Event → State → List Object
@@ -69,11 +72,16 @@ objects_reserved progress s F = F
 
 abbrev pub reserved_after : Role → List Object → (ℕ → Object → Bool) → ℕ → Object → Bool
 reserved_after Outside F reserved s o = reserved s o
-reserved_after (Within p progress) F reserved s o = if s == p then (if has_object o (objects_reserved progress p F) then true else reserved s o) else reserved s o
+reserved_after (Within p progress) F reserved s o =
+    if s == p
+    then (if has_object o (objects_reserved progress p F) then true else reserved s o)
+    else reserved s o
 reserved_after (Commits p) F reserved s o = if s == p then false else reserved s o
 reserved_after (Aborts p status) F reserved s o = if s == p then false else reserved s o
 
 -- what the steps of the live transaction of s reserved, each in the state before it
 unfoldable pub reserved_of : State → List Accepted → ℕ → Object → Bool
 reserved_of S [] s o = false
-reserved_of S (e ∷ h) s o = reserved_after (role_in S e h) (event_footprint (table_of S h) (event_of S e h) (without S nobody h)) (reserved_of S h) s o
+reserved_of S (e ∷ h) s o =
+    reserved_after (role_in S e h)
+    (event_footprint (table_of S h) (event_of S e h) (without S nobody h)) (reserved_of S h) s o

@@ -1,6 +1,11 @@
 -- In the order in which to read them. What the headline says comes first: the state, the rule book
 -- and its small words, deliveries, posts and events; then who is in which transaction, what is left
 -- of a history, what there is to see of it, and the answer to a step.
+--
+-- Letters: S is a state, V a view, t a table of marks, X a set of starters to leave out, h a
+-- history, e its newest entry, ev an event, F a footprint, o an object, c a caller, p and q
+-- processes, n any number. Four have two meanings, by type: s is a starter or a signal, m a mark or
+-- a signal that is sent, f an effect or a descriptor, r a role, or a reply or its number.
 pub mod Numbers
 pub mod SignalSets
 pub mod Memory

@@ -79,11 +79,15 @@ module _ (t : Table) where
   -- whether a member other than p, of a number up to n, has not ended its part
   unfoldable pub others_open : ℕ → ℕ → ℕ → Bool
   others_open s p zero = false
-  others_open s p (suc n) = if others_open s p n then true else (if suc n == p then false else is_open_of s (t.marks (suc n)))
+  others_open s p (suc n) =
+      if others_open s p n
+      then true
+      else (if suc n == p then false else is_open_of s (t.marks (suc n)))
 
   abbrev pub inside_by : Option Mark → Option Inside
   inside_by None = None
-  inside_by (Some m) = Some (record { starter = m.starter.0; members = is_member_of m.starter.0; defers = m.defers })
+  inside_by (Some m) =
+      Some (record { starter = m.starter.0; members = is_member_of m.starter.0; defers = m.defers })
 
   -- the member p ends its part: the last one commits
   abbrev pub member_end : ℕ → ℕ → Role
@@ -102,8 +106,8 @@ module _ (t : Table) where
     m ← t.marks (process_of step) or outside_role (process_of step) (page_of_step step).kind
     member_role m.starter.0 (process_of step) (page_of_step step).kind r
 
-  -- the event that stands for a step, its commit apart. Where a call means nothing its process is given the error; at an abort
-  -- its starter is given the status
+  -- the event that stands for a step, its commit apart. Where a call means nothing its process is
+  -- given the error; at an abort its starter is given the status
   abbrev pub kind_event : ℕ → Step → Kind → Option Mark → Event
   kind_event p step (Beginning defers) None = Note p (pos 0)
   kind_event p step (Beginning defers) (Some m) = Note p (error_answer InvalidArgument)
@@ -113,9 +117,14 @@ module _ (t : Table) where
   kind_event p step Aborting (Some m) = Note m.starter.0 (negative ABORTED_BY_CALL)
   kind_event p step kind mark = Do step (inside_by mark)
 
+  -- of a call or a delivery
+  abbrev pub requested_event : Step → Event
+  requested_event step =
+      kind_event (process_of step) step (page_of_step step).kind (t.marks (process_of step))
+
   abbrev pub step_event : Step → Reply → Event
   step_event (KernelAbort s) r = Note s.0 (negative (status_in r))
-  step_event step r = kind_event (process_of step) step (page_of_step step).kind (t.marks (process_of step))
+  step_event step r = requested_event step
 
   abbrev pub event : Step → Reply → Event
   event step r = event_in (role step r) (step_event step r)

@@ -1,4 +1,5 @@
--- Children, the end of a process, and the wait for it (POSIX.1-2017, XSH, fork(), _exit() and waitpid()).
+-- Children, the end of a process, and the wait for it (POSIX.1-2017, XSH, fork(), _exit() and
+-- waitpid()).
 use Rattle.std.specs.Prelude.{ℕ, zero, suc, ◌+◌, ◌-◌, ◌%◌, List, [], ◌∷◌, ◌++◌, ℤ, pos, negsuc, Option, Some, None, map, if◌then◌else◌, ◌==◌}
 use Rattle.tx_base.specs.declared.steps.Reply.TheVariants.{Ended}
 use Rattle.tx_model.specs.SignalSets.{child_signo}
@@ -21,7 +22,8 @@ ended_process status me = bare_process me.parent (Some status) me.ids
 
 unfoldable pub children_below : ℕ → ℕ → State → List ℕ
 children_below p zero S = []
-children_below p (suc q) S = if has_parent p (S.procs q) then q ∷ children_below p q S else children_below p q S
+children_below p (suc q) S =
+    if has_parent p (S.procs q) then q ∷ children_below p q S else children_below p q S
 
 -- those of process 1 are nobody's concern
 abbrev pub children_of : ℕ → State → List ℕ
@@ -38,6 +40,11 @@ orphan_writes (q ∷ qs) S = SetProc q (with_parent 1 (S.procs q)) ∷ orphan_wr
 abbrev pub child_notice : ℕ → Sending
 child_notice parent = record { target = parent; signo = child_signo; value = pos 0; from = None }
 
+-- the transaction that holds a send until its commit: the sender's, unless the target is a member
+abbrev pub holder_of : ℕ → Option Inside → Option Inside
+holder_of target None = None
+holder_of target (Some inside) = if inside.members target then None else Some inside
+
 -- how the parent of a process that ends is notified
 pub data Notice : Type 0 where
   NotTold : Notice
@@ -49,8 +56,7 @@ pub data Notice : Type 0 where
 abbrev pub parent_notice : Option Inside → ℕ → Notice
 parent_notice inside parent = do
   NotTold when parent == 1
-  transaction ← inside or AtOnce
-  AtOnce when transaction.members parent
+  transaction ← holder_of parent inside or AtOnce
   AtCommit transaction.starter
 
 abbrev pub notice_now : Notice → ℕ → List Sending
@@ -83,7 +89,10 @@ held_objects None = []
 held_objects (Some inside) = Held inside.starter ∷ []
 
 abbrev pub ending_objects : Caller → List Object
-ending_objects c = desc_pipe_objects (open_in c.process.descriptors) c.state ++ procs_of (children_of c.number c.state) ++ held_objects c.inside
+ending_objects c =
+    desc_pipe_objects (open_in c.process.descriptors) c.state
+    ++ procs_of (children_of c.number c.state)
+    ++ held_objects c.inside
 
 abbrev pub exit_status : ℤ → ℕ
 exit_status (pos n) = n % 256

@@ -21,4 +21,5 @@ module _ (S : State) where
 
   unfoldable pub answers_of : List Accepted → List Step → List Reply
   answers_of h [] = []
-  answers_of h (step ∷ steps) = answer (view S h) step ∷ answers_of (history_with h step (answer (view S h) step)) steps
+  answers_of h (step ∷ steps) =
+      answer (view S h) step ∷ answers_of (history_with h step (answer (view S h) step)) steps

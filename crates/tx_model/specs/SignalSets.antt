@@ -1,5 +1,5 @@
--- The known signals, and sets of signals as numbers: the bit of signal n is 2 ^ n (POSIX.1-2017, XBD, signal.h).
--- The numbers are own ones, those of Linux.
+-- The known signals, and sets of signals as numbers: the bit of signal n is 2 ^ n (POSIX.1-2017,
+-- XBD, signal.h). The numbers are own ones, those of Linux.
 use Rattle.std.specs.Prelude.{ℕ, ◌-◌, ◌^◌, Bool, false, ◌||◌, List, [], ◌∷◌, ◌==◌, bit_and, bit_or}
 use Rattle.std.specs.Int.{bit_at}
 use Rattle.tx_base.specs.declared.signals.TheConstants.{SIGKILL, SIGPIPE, SIGCHLD}
@@ -49,4 +49,6 @@ set_of (signo ∷ signos) = with_one_more (set_of signos) signo
 
 -- what a mask may hold: SIGKILL and the numbers that are not known are dropped
 abbrev pub maskable : ℕ → ℕ
-maskable set = without_one (bit_and set (bit_or (set_of standard_signals) (set_of realtime_signals))) kill_signo
+maskable set =
+    without_one (bit_and set (bit_or (set_of standard_signals) (set_of realtime_signals)))
+    kill_signo

@@ -16,11 +16,15 @@ known_signal (negsuc n) = None
 
 abbrev pub queued_others : ℕ → List Queued → List Queued
 queued_others signo [] = []
-queued_others signo (entry ∷ entries) = if entry.signo == signo then queued_others signo entries else entry ∷ queued_others signo entries
+queued_others signo (entry ∷ entries) =
+    if entry.signo == signo
+    then queued_others signo entries
+    else entry ∷ queued_others signo entries
 
 -- every pending occurrence is gone
 abbrev pub without_signal : ℕ → Process → Process
-without_signal signo me = record me { pending = without_one me.pending signo; queued = queued_others signo me.queued }
+without_signal signo me =
+    record me { pending = without_one me.pending signo; queued = queued_others signo me.queued }
 
 abbrev pub maskable_action : Action → Action
 maskable_action (Catch point mask) = Catch point (set_of_bits (maskable (bits_of mask)))
@@ -49,7 +53,8 @@ is_ignoring Ignored = true
 is_ignoring disposition = false
 
 abbrev pub with_action : ℕ → Action → Process → Process
-with_action signo action me = record me { actions = slice_set me.actions signo (maskable_action action) }
+with_action signo action me =
+    record me { actions = slice_set me.actions signo (maskable_action action) }
 
 abbrev pub changed_mask : How → ℕ → ℕ → ℕ
 changed_mask Block set mask = bit_or mask set
@@ -67,4 +72,9 @@ abbrev pub newest_frame : List Frame → Option Frame
 newest_frame frames = slice_get frames (length frames - 1)
 
 abbrev pub with_frame : Frame → Process → Process
-with_frame frame me = record me { registers = frame.registers; mask = frame.mask; frames = take (length me.frames - 1) me.frames }
+with_frame frame me =
+    record me {
+      registers = frame.registers;
+      mask = frame.mask;
+      frames = take (length me.frames - 1) me.frames;
+    }

@@ -1,4 +1,4 @@
--- The kernel's state, what is written into it, and what two states have in common.
+-- The kernel's state, and what is written into it.
 use Rattle.std.specs.Prelude.{ℕ, zero, suc, Bool, true, false, List, [], ◌∷◌, Option, Some, None, ℤ, pos, if◌then◌else◌, nat_lt, ◌==◌, is_some, replicate, slice_index_or}
 use Rattle.tx_base.specs.declared.limits.TheConstants.{DESCRIPTORS, SIGNALS, SLOTS}
 use Rattle.tx_base.specs.declared.names.Regs.{Regs}
@@ -6,7 +6,8 @@ use Rattle.tx_base.specs.declared.signals.Action.{Action}
 use Rattle.tx_base.specs.declared.signals.Action.TheVariants.{Usual}
 use Rattle.tx_model.specs.Memory.{Memory, no_memory}
 
--- POSIX.1-2017, XBD, Real User ID, Effective User ID and Saved Set-User-ID, and the same of the group
+-- POSIX.1-2017, XBD, Real User ID, Effective User ID and Saved Set-User-ID, and the same of the
+-- group
 pub record Ids : Type 0 where
   pub real_user : ℕ
   pub effective_user : ℕ
@@ -65,7 +66,8 @@ pub record Sending : Type 0 where
   pub value : ℤ
   pub from : Option Sender
 
--- a description is there while a descriptor names it, a pipe while a description does; nothing is counted
+-- a description is there while a descriptor names it, a pipe while a description does; nothing is
+-- counted
 pub record State : Type 0 where
   -- the greatest process number: 64, or 256 on a wide machine
   pub width : ℕ
@@ -113,7 +115,8 @@ is_number n (Some m) = m == n
 -- whether its descriptor f names description d; a process that has ended names nothing
 abbrev pub names_at : ℕ → ℕ → Option Process → Bool
 names_at d f None = false
-names_at d f (Some q) = if is_some q.status then false else is_number d (slice_index_or q.descriptors f None)
+names_at d f (Some q) =
+    if is_some q.status then false else is_number d (slice_index_or q.descriptors f None)
 
 -- the side of pipe k that the description is
 abbrev pub side_in : ℕ → Option Description → Option Side
@@ -132,7 +135,15 @@ has_object o [] = false
 has_object o (x ∷ xs) = if same_object o x then true else has_object o xs
 
 abbrev pub root_ids : Ids
-root_ids = record { real_user = 0; effective_user = 0; saved_user = 0; real_group = 0; effective_group = 0; saved_group = 0 }
+root_ids =
+    record {
+      real_user = 0;
+      effective_user = 0;
+      saved_user = 0;
+      real_group = 0;
+      effective_group = 0;
+      saved_group = 0;
+    }
 
 abbrev pub first_registers : Regs
 first_registers = record { point = 0; ret = pos 0; slots = replicate SLOTS (pos 0) }

@@ -1,5 +1,5 @@
--- When two states agree at an object, and the first laws of states: a map with one place changed, and states that have the
--- same everywhere. Own rules.
+-- When two states agree at an object, and the first laws of states: a map with one place changed,
+-- and states that have the same everywhere. Own rules.
 use Rattle.std.specs.Prelude.{◌≡◌, ◌≢◌, ℕ, Bool, true, false, List, ◌⊎◌, ◌==◌, if◌then◌else◌}
 use Rattle.std.proofs.Common.{refl, inl, inr, eq-eqb, eqb-true}
 use Rattle.std.proofs.lemmas.Bool.{both_ways}
@@ -35,10 +35,12 @@ pub put_here : {A : Type 0} (f : ℕ → A) (k : ℕ) (v : A) → put_at f k v k
 put_here {A} f k v = rw (eq-eqb k k refl) refl
 
 -- and what is asked for is either what was put in, or what was there before
-pub put_cases : {A : Type 0} (f : ℕ → A) (k : ℕ) (v : A) (n : ℕ) → ((n ≡ k) × (put_at f k v n ≡ v)) ⊎ ((n ≢ k) × (put_at f k v n ≡ f n))
+pub put_cases : {A : Type 0} (f : ℕ → A) (k : ℕ) (v : A) (n : ℕ)
+    → ((n ≡ k) × (put_at f k v n ≡ v)) ⊎ ((n ≢ k) × (put_at f k v n ≡ f n))
 put_cases {A} f k v n = by (n == k) refl
   where
-    by : (b : Bool) → (n == k) ≡ b → ((n ≡ k) × ((if b then v else f n) ≡ v)) ⊎ ((n ≢ k) × ((if b then v else f n) ≡ f n))
+    by : (b : Bool) → (n == k) ≡ b
+        → ((n ≡ k) × ((if b then v else f n) ≡ v)) ⊎ ((n ≢ k) × ((if b then v else f n) ≡ f n))
     by true e = inl (eqb-true n k e, refl)
     by false e = inr (λ z. both_ways (n == k) e (eq-eqb n k z), refl)
 
@@ -48,4 +50,12 @@ put_there {A} f k v n ne = elim (put_cases f k v n) [ inl e ↦ absurd (ne e.0) 
 
 -- states of the same width that have the same at each object are the same
 pub state_ext : (S R : State) → S.width ≡ R.width → ((o : Object) → EqualAt S R o) → S ≡ R
-state_ext S R w h = λ i. record { width = w i; procs = λ n. h (Proc n) i; descs = λ n. h (Desc n) i; pipes = λ n. h (Pipe n) i; held = λ n. h (Held n) i }
+state_ext S R w h =
+    λ i.
+    record {
+      width = w i;
+      procs = λ n. h (Proc n) i;
+      descs = λ n. h (Desc n) i;
+      pipes = λ n. h (Pipe n) i;
+      held = λ n. h (Held n) i;
+    }

@@ -12,7 +12,7 @@ use Rattle.tx_model.specs.State.{Process, State, Sending, Object}
 use Rattle.tx_model.specs.SignalSets.{kill_signo}
 use Rattle.tx_model.specs.Effects.{send_answers}
 use Rattle.tx_model.specs.Events.{Event, process_of, actor, effect, after, reply_of}
-use Rattle.tx_model.specs.Membership.{Table, Role, role, step_event, event, table_after}
+use Rattle.tx_model.specs.Membership.{Table, Role, role, requested_event, event, table_after}
 use Rattle.tx_model.specs.History.{Starters, nobody, just, table_of, left_out_before, is_left_in, without, event_footprint, reserved_after, reserved_of, is_other_starter}
 
 pub record View : Type 0 where
@@ -36,12 +36,16 @@ unfoldable pub differs_at : ℕ → List Sending → List ℤ → List ℤ → B
 differs_at t [] xs ys = false
 differs_at t (m ∷ ms) [] ys = false
 differs_at t (m ∷ ms) (x ∷ xs) [] = false
-differs_at t (m ∷ ms) (x ∷ xs) (y ∷ ys) = if m.target == t then (if int_eq x y then differs_at t ms xs ys else true) else differs_at t ms xs ys
+differs_at t (m ∷ ms) (x ∷ xs) (y ∷ ys) =
+    if m.target == t
+    then (if int_eq x y then differs_at t ms xs ys else true)
+    else differs_at t ms xs ys
 
 -- up to n
 unfoldable pub least : (ℕ → Bool) → ℕ → Option ℕ
 least P zero = if P zero then Some zero else None
-least P (suc n) = if is_some (least P n) then least P n else (if P (suc n) then Some (suc n) else None)
+least P (suc n) =
+    if is_some (least P n) then least P n else (if P (suc n) then Some (suc n) else None)
 
 module _ (V : View) where
   abbrev pub present : State
@@ -62,7 +66,7 @@ module _ (V : View) where
   -- the reply before it is known whether the step commits
   abbrev pub first_reply : Step → Reply
   first_reply (KernelAbort s) = Aborted (kernel_status s.0)
-  first_reply step = reply_of (step_event V.table step (Aborted (abort_status step))) present
+  first_reply step = reply_of (requested_event V.table step) present
 
   abbrev pub role_on : Step → Role
   role_on step = role V.table step (first_reply step)
@@ -73,13 +77,16 @@ module _ (V : View) where
   -- whether a post of the event to s is answered otherwise without the transaction of s
   abbrev pub has_two_answers : Event → ℕ → Bool
   has_two_answers ev s =
-      let f = effect ev present in differs_at s f.sends (send_answers f present) (send_answers f (V.without (just s)))
+      let f = effect ev present in
+      differs_at s f.sends (send_answers f present) (send_answers f (V.without (just s)))
 
   -- whether the live transaction of s is in the way, of which the actor is no member
   unfoldable pub in_way : Event → ℕ → Bool
   in_way ev s =
+      let is_reserved = some_object (event_footprint V.table ev present) (V.reserved s) in
       if is_other_starter V.table (actor ev) s
-      then (if some_object (event_footprint V.table ev present) (V.reserved s) then true else has_two_answers ev s) else false
+      then (if is_reserved then true else has_two_answers ev s)
+      else false
 
   abbrev pub starter_in_way : Event → Option ℕ
   starter_in_way ev = least (in_way ev) V.table.width
@@ -90,7 +97,9 @@ module _ (V : View) where
       let r = role_on step in
       let ev = event_on step in
       record {
-        without = λ X. let S = V.without (left_out_before r X) in if is_left_in r X then after ev S else S;
+        without =
+            λ X.
+            let S = V.without (left_out_before r X) in if is_left_in r X then after ev S else S;
         table = table_after r (process_of step) V.table;
         reserved = reserved_after r (event_footprint V.table ev present) V.reserved;
       }

@@ -14,7 +14,7 @@ use Rattle.tx_model.specs.State.{Process, State, Object, Proc, Sending, Write, w
 use Rattle.tx_model.specs.Effects.{Inside, Effect, with_answer, process_effect, with_answer_if, Replies}
 use Rattle.tx_model.specs.Book.{page_of_call}
 use Rattle.tx_model.specs.Descriptors.{option_list, desc_objects, description_named, open_in, desc_pipe_objects, other_than, some_below, is_side}
-use Rattle.tx_model.specs.Processes.{ending_objects, Notice, pid_of, AtOnce, AtCommit, procs_of}
+use Rattle.tx_model.specs.Processes.{ending_objects, holder_of, Notice, pid_of, AtOnce, AtCommit, procs_of}
 use Rattle.tx_model.specs.Deliveries.{delivery, delivery_page, is_killing}
 use Rattle.tx_model.specs.Events.{Event, after, page_of_step}
 use Rattle.tx_model.specs.Forms.{Caller, caller, effect_of, Kind, Choice}
@@ -51,7 +51,8 @@ abbrev pub starters_without : ℕ → Starters → Starters
 starters_without s X n = if n == s then false else X n
 
 abbrev pub kind_role : Table → ℕ → Kind → Reply → Option Mark → Role
-kind_role t p kind r mark = elim mark [ None ↦ outside_role p kind | Some m ↦ member_role t m.starter.0 p kind r ]
+kind_role t p kind r mark =
+    elim mark [ None ↦ outside_role p kind | Some m ↦ member_role t m.starter.0 p kind r ]
 
 -- what a step makes of its own process, and its reply
 pub record Own : Type 0 where
@@ -99,7 +100,8 @@ abbrev pub meets_reserved : View → Event → ℕ → Bool
 meets_reserved V ev s = some_object (event_footprint V.table ev (present V)) (V.reserved s)
 
 abbrev pub is_blocking : Bool → View → Event → ℕ → Bool
-is_blocking other V ev s = if other then (if meets_reserved V ev s then true else has_two_answers V ev s) else false
+is_blocking other V ev s =
+    if other then (if meets_reserved V ev s then true else has_two_answers V ev s) else false
 
 abbrev pub after_if : Bool → Event → State → State
 after_if made ev S = if made then after ev S else S
@@ -118,8 +120,11 @@ IsClear V ev = (s : ℕ) → is_live V.table s ≡ true → in_way V ev s ≡ fa
 abbrev pub unless_refused : Option Refusal → Reply → Reply
 unless_refused o r = elim o [ None ↦ r | Some why ↦ No why ]
 
+abbrev pub notice_by : Option Inside → Notice
+notice_by holder = elim holder [ None ↦ AtOnce | Some i ↦ AtCommit i.starter ]
+
 abbrev pub parent_notice_by : Option Inside → ℕ → Notice
-parent_notice_by inside parent = elim inside [ None ↦ AtOnce | Some i ↦ if i.members parent then AtOnce else AtCommit i.starter ]
+parent_notice_by inside parent = notice_by (holder_of parent inside)
 
 abbrev pub fork_objects : ℕ → Process → List Object
 fork_objects c me = Proc c ∷ desc_objects (open_in me.descriptors)
@@ -134,7 +139,8 @@ abbrev pub pipe_objects : ℕ → ℕ → ℕ → List Object
 pipe_objects q r w = Pipe q ∷ Desc r ∷ Desc w ∷ []
 
 abbrev pub dup2_objects : Option ℕ → Option ℕ → Process → State → List Object
-dup2_objects f g me S = desc_objects (option_list (description_named me f)) ++ desc_pipe_objects (other_than f g me) S
+dup2_objects f g me S =
+    desc_objects (option_list (description_named me f)) ++ desc_pipe_objects (other_than f g me) S
 
 -- whether a signal with this action is ignored
 abbrev pub is_ignored : ℕ → Action → Bool
@@ -169,14 +175,15 @@ abbrev pub stands_at : ℕ → Process → Process
 stands_at point me = record me { registers = record me.registers { point = point } }
 
 abbrev pub with_register_slot : ℕ → ℤ → Process → Process
-with_register_slot k value me = record me { registers = record me.registers { slots = slice_set me.registers.slots k value } }
+with_register_slot k value me =
+    record me { registers = record me.registers { slots = slice_set me.registers.slots k value } }
 
 -- the status of an abort by a member (own number)
 abbrev pub called_by_status : ℕ
 called_by_status = ABORTED_BY_CALL
 
--- whether a number that the call chooses is out of range, or one number is chosen twice: processes are 1 to the width,
--- pipes 0 to 31, descriptions 0 to 63
+-- whether a number that the call chooses is out of range, or one number is chosen twice: processes
+-- are 1 to the width, pipes 0 to 31, descriptions 0 to 63
 abbrev pub has_bad_number : ℕ → Step → Bool
 has_bad_number width step = is_bad_choice width (page_of_step step).chooses
 
@@ -200,13 +207,27 @@ abbrev pub byte_or_zero : Option ℕ → ℕ
 byte_or_zero o = unwrap_or o 0
 
 abbrev pub note_effect : ℕ → ℤ → Option Process → Effect
-note_effect p r q = record { writes = SetProc p (with_answer_if r q) ∷ []; sends = []; conclusion = Replies (Done r) }
+note_effect p r q =
+    record {
+      writes = SetProc p (with_answer_if r q) ∷ [];
+      sends = [];
+      conclusion = Replies (Done r);
+    }
 
 abbrev pub with_two_slots : ℕ → ℕ → Process → Process
-with_two_slots f g me = record me { registers = record me.registers { slots = slice_set (slice_set me.registers.slots 0 (pos f)) 1 (pos g) } }
+with_two_slots f g me =
+    record me {
+      registers =
+          record me.registers {
+            slots = slice_set (slice_set me.registers.slots 0 (pos f)) 1 (pos g);
+          };
+    }
 
 abbrev pub with_status : ℕ → Process → Process
-with_status status me = record me { registers = record me.registers { slots = slice_set me.registers.slots 0 (pos status) } }
+with_status status me =
+    record me {
+      registers = record me.registers { slots = slice_set me.registers.slots 0 (pos status) };
+    }
 
 abbrev pub is_full : Process → Bool
 is_full me = not (nat_lt (length me.frames) FRAMES)

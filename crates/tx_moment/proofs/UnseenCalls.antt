@@ -12,14 +12,14 @@ use Rattle.tx_base.specs.declared.steps.Reply.{Reply}
 use Rattle.tx_base.specs.declared.steps.Reply.TheVariants.{Done, Ended}
 use Rattle.tx_model.specs.Numbers.{below, error_answer}
 use Rattle.tx_model.specs.Memory.{Memory, page_at, is_good, is_mapped, is_writable, stored_memory, loaded_byte, address_of}
-use Rattle.tx_model.specs.Book.{id_of, is_privileged, is_own_user, is_own_group, is_jump_taken, has_reader, has_writer, is_read_side, is_write_side, bytes_in, broken_pipe, sendable, member_sends, page_of_call, with_memory, with_ids, release, of_side, description_in, end_at, is_empty, read, write, fork, exit, waitpid, holder_of, sigqueue, sigaction, sigpending}
+use Rattle.tx_model.specs.Book.{id_of, is_privileged, is_own_user, is_own_group, is_jump_taken, has_reader, has_writer, is_read_side, is_write_side, bytes_in, broken_pipe, sendable, member_sends, page_of_call, with_memory, with_ids, release, of_side, description_in, end_at, is_empty, read, write, fork, exit, waitpid, sigqueue, sigaction, sigpending}
 use Rattle.tx_model.specs.State.{Ids, Process, Side, State, Object, Write, SetProc, write_one}
 use Rattle.tx_model.specs.Effects.{Replies, Effect, Inside, with_answer}
 use Rattle.tx_model.specs.Words.{Own, own_effect, answer_effect, answer_effect_with, answers_with, delivery_effect, delivery_objects, call_effect, call_objects, page_of, last_ret, stands_at, with_register_slot, is_ignored, dup2_objects, pipe_list, with_two_slots, with_status, is_full}
 use Rattle.tx_model.specs.Signals.{Disposition, Ignored, Fatal, Caught, disposition, newest_frame, with_frame, changed_mask, with_action, without_signal}
 use Rattle.tx_model.specs.SignalSets.{maskable}
 use Rattle.tx_model.specs.Descriptors.{descriptor, description_named, option_list, lowest_free, with_descriptor, is_pipe_in_use, removals, open_in, other_than, desc_objects, desc_pipe_objects}
-use Rattle.tx_model.specs.Processes.{child_of, ended_process, children_of, orphan_writes, NotTold, AtOnce, AtCommit, parent_notice, ending, ending_objects, held_objects, exit_status, pid_of, Notice, notice_held, notice_now, procs_of}
+use Rattle.tx_model.specs.Processes.{holder_of, child_of, ended_process, children_of, orphan_writes, NotTold, AtOnce, AtCommit, parent_notice, ending, ending_objects, held_objects, exit_status, pid_of, Notice, notice_held, notice_now, procs_of}
 use Rattle.tx_model.specs.Deliveries.{without_delivered, at_catch_point, killed_status, is_deferred, action_at, delivered_value, ends_by, reaction}
 use Rattle.tx_model.specs.Forms.{Caller, Outcome, fails, answers, changes, stands, refuses, does, effect_of, ◌or◌, ◌when◌, caller}
 use Rattle.tx_model.specs.BookLaws.{sigaction_lines}

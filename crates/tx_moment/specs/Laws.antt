@@ -32,4 +32,6 @@ pub record MomentLaws : Type 0 where
   pub answers : AnswersWithoutOthers
   pub agree : HistoriesAgree
   pub sound : LawfulViewIsSound
-  pub table : (start : State) (history : List Accepted) → IsWellFormed start → HoldsNothing start → Lawful start history → IsWellFormedWith (table_of start history) (without start nobody history)
+  pub table : (start : State) (history : List Accepted) → IsWellFormed start → HoldsNothing start
+      → Lawful start history
+      → IsWellFormedWith (table_of start history) (without start nobody history)

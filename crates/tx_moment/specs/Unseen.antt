@@ -11,7 +11,8 @@ pub record Signals : Type 0 where
 
 -- the process with these signals pending in place of its own; one that has ended has none
 abbrev pub resignalled : Signals → Process → Process
-resignalled g q = if is_some q.status then q else record q { pending = g.pending; queued = g.queued }
+resignalled g q =
+    if is_some q.status then q else record q { pending = g.pending; queued = g.queued }
 
 abbrev pub resignalled_if : Signals → Option Process → Option Process
 resignalled_if g None = None
@@ -35,15 +36,19 @@ pub record LeavesSignals (s : ℕ) (event : Event) (state : State) : Type 0 wher
 
 -- it does the same whatever is pending there, and leaves that as it is
 abbrev pub UnseenSignalsStay : Type 0
-UnseenSignalsStay = (event : Event) (state : State) (s : ℕ) (g : Signals) → LeavesSignals s event state →
+UnseenSignalsStay =
+    (event : Event) (state : State) (s : ℕ) (g : Signals) → LeavesSignals s event state →
     after event (with_signals s g state) ≡ with_signals s g (after event state)
 
 -- it names the same objects
 abbrev pub UnseenObjectsStay : Type 0
-UnseenObjectsStay = (event : Event) (state : State) (s : ℕ) (g : Signals) → LeavesSignals s event state →
+UnseenObjectsStay =
+    (event : Event) (state : State) (s : ℕ) (g : Signals) → LeavesSignals s event state →
     objects event (with_signals s g state) ≡ objects event state
 
 -- it sends the same and has the same reply
 abbrev pub UnseenRepliesStay : Type 0
-UnseenRepliesStay = (event : Event) (state : State) (s : ℕ) (g : Signals) → LeavesSignals s event state →
-    ((effect event (with_signals s g state)).sends ≡ (effect event state).sends) × (reply_of event (with_signals s g state) ≡ reply_of event state)
+UnseenRepliesStay =
+    (event : Event) (state : State) (s : ℕ) (g : Signals) → LeavesSignals s event state →
+    ((effect event (with_signals s g state)).sends ≡ (effect event state).sends)
+    × (reply_of event (with_signals s g state) ≡ reply_of event state)

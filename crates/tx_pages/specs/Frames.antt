@@ -18,4 +18,5 @@ bytes_of (Some page) = page.bytes
 
 -- a page of memory with some of its bytes written over
 abbrev pub written : Memory → ℕ → ℕ → List ℕ → Option PageView
-written memory n offset bytes = with_bytes (overlaid (bytes_of (page_at memory n)) offset bytes) (page_at memory n)
+written memory n offset bytes =
+    with_bytes (overlaid (bytes_of (page_at memory n)) offset bytes) (page_at memory n)

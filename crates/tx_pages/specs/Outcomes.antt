@@ -32,14 +32,19 @@ Loads memory address (Err Invalid) = ⊥
 
 -- the bytes of a range, copied out over others
 abbrev pub Takes : {A : Type 0} → Memory → ℤ → List ℕ → Result A PageError → List ℕ → Type 0
-Takes memory address old (Ok _) new = (is_good is_mapped memory address (length old) ≡ true) × (new ≡ bytes_at memory (below 1024 address) (length old))
-Takes memory address old (Err Fault) new = (is_good is_mapped memory address (length old) ≡ false) × (new ≡ old)
+Takes memory address old (Ok _) new =
+    (is_good is_mapped memory address (length old) ≡ true)
+    × (new ≡ bytes_at memory (below 1024 address) (length old))
+Takes memory address old (Err Fault) new =
+    (is_good is_mapped memory address (length old) ≡ false) × (new ≡ old)
 Takes memory address old (Err NoMemory) new = ⊥
 Takes memory address old (Err Invalid) new = ⊥
 
 -- a page with some of its bytes written over, where it may be written
 abbrev pub Patches : Memory → ℕ → ℕ → List ℕ → Result NewPage PageError → Type 0
-Patches memory number offset bytes (Ok new) = (is_writable (page_at memory number) ≡ true) × ((new.number ≡ number) × (new.page ≡ written memory number offset bytes))
+Patches memory number offset bytes (Ok new) =
+    (is_writable (page_at memory number) ≡ true)
+    × ((new.number ≡ number) × (new.page ≡ written memory number offset bytes))
 Patches memory number offset bytes (Err Fault) = is_writable (page_at memory number) ≡ false
 Patches memory number offset bytes (Err NoMemory) = is_writable (page_at memory number) ≡ true
 Patches memory number offset bytes (Err Invalid) = ⊥
@@ -54,7 +59,8 @@ abbrev pub AreNumbered : List NewPage → Type 0
 AreNumbered [] = Unit {0}
 AreNumbered (new ∷ pages) = (new.number < 16) × AreNumbered pages
 
--- the memory that a plan of one page makes, and that of a plan of several; an error puts nothing in place
+-- the memory that a plan of one page makes, and that of a plan of several; an error puts nothing in
+-- place
 abbrev pub with_new : Memory → Result NewPage PageError → Memory
 with_new memory (Ok new) = slice_set memory new.number new.page
 with_new memory (Err why) = memory

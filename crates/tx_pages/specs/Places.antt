@@ -6,4 +6,7 @@ use Rattle.tx_model.specs.Memory.{address_of}
 -- whether so many bytes from an address on are some, all on one page
 abbrev pub are_on_page : ℤ → ℕ → Bool
 are_on_page address count =
-    elim (address_of address) [ None ↦ false | Some first ↦ nat_lt 0 count && nat_le (first % PAGE_BYTES + count) PAGE_BYTES ]
+    elim (address_of address) [
+      | None ↦ false
+      | Some first ↦ nat_lt 0 count && nat_le (first % PAGE_BYTES + count) PAGE_BYTES
+    ]

@@ -18,7 +18,8 @@ leaves row passage = passage.written == row
 abbrev pub enters : ℕ → Passage → Bool
 enters row passage = passage.read == row
 
--- how far an arrow is moved aside, where there are so many before it at its mark: it stays in the row
+-- how far an arrow is moved aside, where there are so many before it at its mark: it stays in the
+-- row
 abbrev pub aside : ℕ → ℕ
 aside count = 3 * min count 3
 
@@ -31,23 +32,34 @@ fan_of before passage = record {
 
 abbrev pub straight_text : ℕ → ℕ → Fan → Passage → List ℕ
 straight_text x to fan passage =
-    shape_text Line (codes "pipe") (record { 0 = x; 1 = y_of passage.written + fan.below; 2 = to; 3 = y_of passage.read - fan.above })
+    shape_text Line (codes "pipe")
+    (record {
+      0 = x;
+      1 = y_of passage.written + fan.below;
+      2 = to;
+      3 = y_of passage.read - fan.above;
+    })
 
 -- beside the line of a process that reads what it wrote
 abbrev pub bent_text : ℕ → Fan → Passage → List ℕ
 bent_text x fan passage =
     let left = x - (14 + fan.below) in
     let y = y_between passage.written passage.read in
-    shape_text Line (codes "bend") (record { 0 = x; 1 = y_of passage.written + fan.below; 2 = left; 3 = y })
-    ++ shape_text Line (codes "pipe") (record { 0 = left; 1 = y; 2 = x; 3 = y_of passage.read - fan.above })
+    shape_text Line (codes "bend")
+    (record { 0 = x; 1 = y_of passage.written + fan.below; 2 = left; 3 = y })
+    ++ shape_text Line (codes "pipe")
+    (record { 0 = left; 1 = y; 2 = x; 3 = y_of passage.read - fan.above })
 
 -- from the writer's column to the reader's
 abbrev pub passage_text : List Pid → Fan → Passage → List ℕ
 passage_text columns fan passage =
-    if passage.writer.0 == passage.reader.0 then bent_text (x_of columns passage.writer.0) fan passage
+    if passage.writer.0
+    == passage.reader.0 then bent_text (x_of columns passage.writer.0) fan passage
     else straight_text (x_of columns passage.writer.0) (x_of columns passage.reader.0) fan passage
 
 -- the arrows of passages, of which those are before them
 abbrev pub passages_text : List Pid → List Passage → List Passage → List ℕ
 passages_text columns before [] = []
-passages_text columns before (passage ∷ passages) = passage_text columns (fan_of before passage) passage ++ passages_text columns (before ++ passage ∷ []) passages
+passages_text columns before (passage ∷ passages) =
+    passage_text columns (fan_of before passage) passage
+    ++ passages_text columns (before ++ passage ∷ []) passages

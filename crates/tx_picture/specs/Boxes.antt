@@ -18,15 +18,19 @@ use Rattle.tx_picture.specs.declared.excerpts.Excerpt.{Excerpt}
 use Rattle.tx_picture.specs.declared.spans.Span.{Span}
 use Rattle.tx_script.specs.Report.{start_state}
 
--- the step makes process p a member of the transaction of s: it is p's own sys_xbegin, or the fork by which a member makes p
+-- the step makes process p a member of the transaction of s: it is p's own sys_xbegin, or the fork
+-- by which a member makes p
 pub data Joins (V : View) (step : Step) (s p : ℕ) : Type 0 where
-  begins : (defers : Bool) → role_on V step ≡ Within s (Begins defers) → p ≡ process_of step → s ≡ p → Joins V step s p
+  begins : (defers : Bool) → role_on V step ≡ Within s (Begins defers) → p ≡ process_of step → s ≡ p
+      → Joins V step s p
   forks : role_on V step ≡ Within s (Forks p) → Joins V step s p
 
 -- the step ends the transaction of s, and is answered so; whether by an abort
 pub data Ends (V : View) (step : Step) (s : ℕ) : Bool → Type 0 where
-  commits : (undelivered : _) → role_on V step ≡ Commits s → answer V step ≡ Committed undelivered → Ends V step s false
-  aborts : (status reported : ℕ) → role_on V step ≡ Aborts s status → answer V step ≡ Aborted reported → Ends V step s true
+  commits : (undelivered : _) → role_on V step ≡ Commits s → answer V step ≡ Committed undelivered
+      → Ends V step s false
+  aborts : (status reported : ℕ) → role_on V step ≡ Aborts s status
+      → answer V step ≡ Aborted reported → Ends V step s true
 
 -- how a step changes the transaction that process p is a member of
 abbrev pub Changes : View → Step → ℕ → Option Pid → Option Pid → Type 0
@@ -38,15 +42,21 @@ Changes V step p (Some s) (Some other) = other ≡ s
 -- only such a step makes a process a member; it is one until a step ends its transaction, and never
 -- moves to another
 abbrev pub MembersChange : Type 0
-MembersChange = (V : View) (step : Step) (p : ℕ) → IsSound V → IsAccepted (answer V step) → Changes V step p (members V p) (members (next V step) p)
+MembersChange =
+    (V : View) (step : Step) (p : ℕ) → IsSound V → IsAccepted (answer V step)
+    → Changes V step p (members V p) (members (next V step) p)
 
 -- whom a step makes a member is one after it
 abbrev pub JoinersAreMembers : Type 0
-JoinersAreMembers = (V : View) (step : Step) (s p : ℕ) → Joins V step s p → members (next V step) p ≡ Some (record { 0 = s })
+JoinersAreMembers =
+    (V : View) (step : Step) (s p : ℕ) → Joins V step s p
+    → members (next V step) p ≡ Some (record { 0 = s })
 
 -- when a transaction ends, none is a member of it any more
 abbrev pub EndedHaveNoMembers : Type 0
-EndedHaveNoMembers = (V : View) (step : Step) (s p : ℕ) (aborted : Bool) → Ends V step s aborted → members V p ≡ Some (record { 0 = s }) → members (next V step) p ≡ None
+EndedHaveNoMembers =
+    (V : View) (step : Step) (s p : ℕ) (aborted : Bool) → Ends V step s aborted
+    → members V p ≡ Some (record { 0 = s }) → members (next V step) p ≡ None
 
 -- the holder of the open box of process p
 abbrev pub open_box : ℕ → List Span → Option Pid
@@ -59,17 +69,30 @@ is_at_top p strip = strip.from == 0 && strip.process.0 == p
 abbrev pub box_at_top : ℕ → List Span → Option Pid
 box_at_top p strips = option_map (λ strip. strip.holder) (find (is_at_top p) strips)
 
--- after a schedule the open box of a process is of the transaction that it is a member of then, and it has none where it is none
+-- after a schedule the open box of a process is of the transaction that it is a member of then, and
+-- it has none where it is none
 abbrev pub OpenBoxesAreOfMembers : Type 0
-OpenBoxesAreOfMembers = (header : Header) (steps : List Step) (p : ℕ) → 1 ≤ p → p ≤ (start_state header).width →
-    open_box p (drawing_of header steps).strips ≡ members (view (start_state header) (history_of (start_state header) [] steps)) p
+OpenBoxesAreOfMembers =
+    (header : Header) (steps : List Step) (p : ℕ) → 1 ≤ p → p ≤ (start_state header).width →
+    open_box p (drawing_of header steps).strips
+    ≡ members (view (start_state header) (history_of (start_state header) [] steps)) p
 
 -- an excerpt begins with the boxes of those that are members before its first step
 abbrev pub ExcerptsBeginWithMembers : Type 0
-ExcerptsBeginWithMembers = (excerpt : Excerpt) (header : Header) (steps : List Step) (p : ℕ) → 1 ≤ p → p ≤ (start_state header).width →
-    box_at_top p (drawing_in excerpt header steps).strips ≡ members (view (start_state header) (history_of (start_state header) [] (steps_before excerpt steps))) p
+ExcerptsBeginWithMembers =
+    (excerpt : Excerpt) (header : Header) (steps : List Step) (p : ℕ) → 1 ≤ p
+    → p ≤ (start_state header).width →
+    box_at_top p (drawing_in excerpt header steps).strips
+    ≡ members
+    (view (start_state header)
+    (history_of (start_state header) [] (steps_before excerpt steps))) p
 
 -- and its open boxes are of those that are members after its last one
 abbrev pub ExcerptsEndWithMembers : Type 0
-ExcerptsEndWithMembers = (excerpt : Excerpt) (header : Header) (steps : List Step) (p : ℕ) → 1 ≤ p → p ≤ (start_state header).width →
-    open_box p (drawing_in excerpt header steps).strips ≡ members (view (start_state header) (history_of (start_state header) [] (made_for excerpt steps))) p
+ExcerptsEndWithMembers =
+    (excerpt : Excerpt) (header : Header) (steps : List Step) (p : ℕ) → 1 ≤ p
+    → p ≤ (start_state header).width →
+    open_box p (drawing_in excerpt header steps).strips
+    ≡ members
+    (view (start_state header) (history_of (start_state header) [] (made_for excerpt steps)))
+    p

@@ -1,4 +1,5 @@
--- What is written beside rows and above columns: the steps as their author wrote them, and the names of processes.
+-- What is written beside rows and above columns: the steps as their author wrote them, and the
+-- names of processes.
 use Rattle.std.specs.Prelude.{ℕ, ◌-◌, ◌==◌, Bool, List, ◌++◌, codes, find, length, nat_lt, not, Option, Some, None, option_map, slice_get, take, if◌then◌else◌}
 use Rattle.tx_base.specs.declared.steps.Step.{Step}
 use Rattle.tx_lines.specs.declared.read.header.Header.{Header}
@@ -19,13 +20,24 @@ pub record Captioned : Type 0 where
   pub lives : List Life
 
 abbrev pub captioned_as : Captions → Captioned
-captioned_as captions = record { notes = notes_as captions.written; start = captions.start; births = captions.births.items; lives = captions.lives.items }
+captioned_as captions =
+    record {
+      notes = notes_as captions.written;
+      start = captions.start;
+      births = captions.births.items;
+      lives = captions.lives.items;
+    }
 
 -- of a schedule whose author wrote that
 abbrev pub captioned_in : Notes → Header → List Step → Captioned
 captioned_in notes header steps =
     let births = births_for notes.names header steps in
-    record { notes = notes; start = header.count; births = births; lives = lives_from header.count births 0 notes.names }
+    record {
+      notes = notes;
+      start = header.count;
+      births = births;
+      lives = lives_from header.count births 0 notes.names;
+    }
 
 -- which of the processes of number p is there after the first k steps
 abbrev pub instance_of : Captioned → ℕ → ℕ → ℕ
@@ -41,7 +53,8 @@ name_in names (Some life) = option_map (λ given. given.name) (slice_get names l
 
 -- the name of the process of number p that is there after the first k steps
 abbrev pub name_of : Captioned → ℕ → ℕ → Option (List ℕ)
-name_of captioned p k = name_in captioned.notes.names (find (is_life p (instance_of captioned p k)) captioned.lives)
+name_of captioned p k =
+    name_in captioned.notes.names (find (is_life p (instance_of captioned p k)) captioned.lives)
 
 -- the line of a step as its author wrote it
 abbrev pub line_of : Captioned → ℕ → Option (List ℕ)

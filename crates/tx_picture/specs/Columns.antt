@@ -17,7 +17,8 @@ is_at p column = column.0 == p
 
 -- a column for the process, if it has none
 abbrev pub noted : List Pid → Pid → List Pid
-noted columns process = if list_any (is_at process.0) columns then columns else columns ++ process ∷ []
+noted columns process =
+    if list_any (is_at process.0) columns then columns else columns ++ process ∷ []
 
 abbrev pub noted_spans : List Pid → List Span → List Pid
 noted_spans = fold (λ columns span. noted columns span.process)
@@ -34,7 +35,8 @@ noted_tie columns (Some (Signal target)) = noted columns target
 
 -- the process whose step it is, and that to which something leads from it
 abbrev pub noted_row : List Pid → Row → List Pid
-noted_row columns row = noted_tie (noted columns (record { 0 = process_of row.step })) (tie_of row.step row.reply)
+noted_row columns row =
+    noted_tie (noted columns (record { 0 = process_of row.step })) (tie_of row.step row.reply)
 
 abbrev pub noted_rows : List Pid → List Row → List Pid
 noted_rows = fold noted_row
@@ -43,9 +45,14 @@ noted_rows = fold noted_row
 abbrev pub noted_waits : List Pid → List Wait → List Pid
 noted_waits = fold (λ columns wait. noted columns wait.awaited)
 
--- the processes from the left to the right: in the order in which they come, and then those that never run
+-- the processes from the left to the right: in the order in which they come, and then those that
+-- never run
 abbrev pub columns_of : Drawn → List Pid
-columns_of drawn = noted_waits (noted_rows (noted_writers (noted_spans (noted_spans [] drawn.lanes) drawn.strips) drawn.passages) drawn.rows) drawn.waits
+columns_of drawn =
+    noted_waits
+    (noted_rows
+    (noted_writers (noted_spans (noted_spans [] drawn.lanes) drawn.strips) drawn.passages)
+    drawn.rows) drawn.waits
 
 -- the number of a column from the left
 abbrev pub place : Option ℕ → ℕ

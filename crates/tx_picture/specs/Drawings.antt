@@ -1,5 +1,5 @@
--- What there is to draw of a schedule, by the definitions of what its steps are answered and of who is a member of which
--- transaction. Own rules.
+-- What there is to draw of a schedule, by the definitions of what its steps are answered and of who
+-- is a member of which transaction. Own rules.
 use Rattle.std.specs.Prelude.{ℕ, ◌+◌, Bool, true, false, List, [], ◌∷◌, ◌++◌, Option, Some, None, option_map, if◌then◌else◌, ◌==◌}
 use Rattle.tx_base.specs.declared.names.Pid.{Pid}
 use Rattle.tx_base.specs.declared.steps.Accepted.{Accepted}
@@ -34,7 +34,8 @@ runners V p = runner p ((present V).procs p)
 abbrev pub members : View → ℕ → Option Pid
 members V p = option_map (λ m. m.starter) (V.table.marks p)
 
--- whose a stretch of a process is: a lane its own, and a strip that of the starter of its transaction
+-- whose a stretch of a process is: a lane its own, and a strip that of the starter of its
+-- transaction
 abbrev pub holders : Stretch → View → ℕ → Option Pid
 holders Lane V = runners V
 holders Strip V = members V
@@ -45,7 +46,8 @@ unless_same None other = None
 unless_same (Some starter) None = Some starter
 unless_same (Some starter) (Some other) = if other.0 == starter.0 then None else Some starter
 
--- the starter whose transaction holds a signal from process p to a target: p is a member, and the target is none
+-- the starter whose transaction holds a signal from process p to a target: p is a member, and the
+-- target is none
 abbrev pub held_by : View → ℕ → Option Pid → Option Pid
 held_by V p None = None
 held_by V p (Some target) = unless_same (members V p) (members V target.0)
@@ -78,7 +80,8 @@ ending V step row = record { row = row; aborted = is_abort (role_on V step) }
 abbrev pub drawn_with : View → Step → ℕ → View → Drawn → Drawn
 drawn_with V step row W drawn = record {
   before = drawn.before;
-  rows = drawn.rows ++ record { step = step; reply = answer V step; holder = holder_of V step } ∷ [];
+  rows =
+      drawn.rows ++ record { step = step; reply = answer V step; holder = holder_of V step } ∷ [];
   lanes = followed_upto (runners W) (ending V step row) W.table.width drawn.lanes;
   strips = followed_upto (members W) (ending V step row) W.table.width drawn.strips;
   written = written_after (transfer_of V step row) (answer V step) drawn.written;
@@ -91,7 +94,8 @@ module _ (S : State) where
   unfoldable pub drawn_from : List Accepted → List Step → ℕ → Drawn → Drawn
   drawn_from h [] row drawn = drawn
   drawn_from h (step ∷ steps) row drawn =
-      let later = history_with h step (answer (view S h) step) in drawn_from later steps (row + 1) (drawn_with (view S h) step row (view S later) drawn)
+      let later = history_with h step (answer (view S h) step) in
+      drawn_from later steps (row + 1) (drawn_with (view S h) step row (view S later) drawn)
 
 -- before the first step
 abbrev pub first_drawn : View → Drawn

@@ -14,7 +14,8 @@ pub record Drawn : Type 0 where
   pub rows : List Row
   -- where each process runs
   pub lanes : List Span
-  -- where each process is a member of a transaction: a transaction's box is the stretches of its members
+  -- where each process is a member of a transaction: a transaction's box is the stretches of its
+  -- members
   pub strips : List Span
   -- the writes to pipes, the newest first
   pub written : List Written

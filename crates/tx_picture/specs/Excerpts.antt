@@ -23,7 +23,8 @@ abbrev pub end_after : ℕ → End → End
 end_after before end = record end { row = end.row - before }
 
 abbrev pub span_after : ℕ → Span → Span
-span_after before span = record span { from = span.from - before; end = option_map (end_after before) span.end }
+span_after before span =
+    record span { from = span.from - before; end = option_map (end_after before) span.end }
 
 abbrev pub spans_after : ℕ → List Span → List Span
 spans_after before spans = map (span_after before) (filter (is_span_after before) spans)
@@ -33,7 +34,8 @@ abbrev pub is_read_after : ℕ → Passage → Bool
 is_read_after before passage = nat_lt before passage.read
 
 abbrev pub passage_after : ℕ → Passage → Passage
-passage_after before passage = record passage { written = passage.written - before; read = passage.read - before }
+passage_after before passage =
+    record passage { written = passage.written - before; read = passage.read - before }
 
 abbrev pub passages_after : ℕ → List Passage → List Passage
 passages_after before passages = map (passage_after before) (filter (is_read_after before) passages)
@@ -73,4 +75,5 @@ steps_before excerpt steps = take (before_in excerpt steps) (made_for excerpt st
 
 -- what there is to draw of an excerpt of a schedule, as if its last step were the schedule's
 abbrev pub drawing_in : Excerpt → Header → List Step → Drawn
-drawing_in excerpt header steps = excerpt_of (before_in excerpt steps) (drawing_of header (made_for excerpt steps))
+drawing_in excerpt header steps =
+    excerpt_of (before_in excerpt steps) (drawing_of header (made_for excerpt steps))

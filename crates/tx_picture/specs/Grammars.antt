@@ -10,11 +10,15 @@ use Rattle.tx_picture.specs.declared.excerpts.Excerpt.{Excerpt}
 use Rattle.tx_translate.specs.Written.{Notes}
 use Rattle.tx_script.specs.Grammars.{Grammar}
 
--- a header and steps, as those that are replayed, answered by the picture of an excerpt of them, with what their author wrote
+-- a header and steps, as those that are replayed, answered by the picture of an excerpt of them,
+-- with what their author wrote
 unfoldable pub pictures : Excerpt → Notes → Grammar (Header × List Step)
 pictures excerpt notes = record {
   IsGood = λ spelled. IsSchedule spelled.0 spelled.1;
   text = λ spelled. schedule_text spelled.0 spelled.1;
   IsFault = IsFaultOf;
-  answer = λ spelled. picture_of (captioned_in notes spelled.0 spelled.1) (drawing_in excerpt spelled.0 spelled.1);
+  answer =
+      λ spelled.
+      picture_of (captioned_in notes spelled.0 spelled.1)
+      (drawing_in excerpt spelled.0 spelled.1);
 }

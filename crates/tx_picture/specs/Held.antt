@@ -29,24 +29,32 @@ end_at strips p row = end_of (find (covers p row) strips)
 -- down from the sender to where it stays
 abbrev pub kept_text : Place → ℕ → List ℕ
 kept_text place bottom =
-    shape_text Line (codes "held") (record { 0 = place.x; 1 = place.y; 2 = place.x + 12; 3 = place.y })
-    ++ shape_text Line (codes "held") (record { 0 = place.x + 12; 1 = place.y; 2 = place.x + 12; 3 = bottom })
+    shape_text Line (codes "held")
+    (record { 0 = place.x; 1 = place.y; 2 = place.x + 12; 3 = place.y })
+    ++ shape_text Line (codes "held")
+    (record { 0 = place.x + 12; 1 = place.y; 2 = place.x + 12; 3 = bottom })
 
 -- on from a commit to the target, or dropped at an abort
 abbrev pub sent_text : Place → ℕ → Bool → List ℕ
 sent_text place bottom aborted =
-    if aborted then shape_text Line (codes "dropped") (record { 0 = place.x + 12 - 6; 1 = bottom; 2 = place.x + 12 + 6; 3 = bottom })
-    else shape_text Line (codes "signal") (record { 0 = place.x + 12; 1 = bottom; 2 = place.to; 3 = bottom })
+    if aborted then shape_text Line (codes "dropped")
+    (record { 0 = place.x + 12 - 6; 1 = bottom; 2 = place.x + 12 + 6; 3 = bottom })
+    else shape_text Line (codes "signal")
+    (record { 0 = place.x + 12; 1 = bottom; 2 = place.to; 3 = bottom })
 
 -- a signal that is held, in a transaction that ends there
 abbrev pub held_text : Place → ℕ → Option End → List ℕ
 held_text place last None = kept_text place (y_of last + 8)
-held_text place last (Some end) = kept_text place (y_of end.row + 8) ++ sent_text place (y_of end.row + 8) end.aborted
+held_text place last (Some end) =
+    kept_text place (y_of end.row + 8) ++ sent_text place (y_of end.row + 8) end.aborted
 
 abbrev pub signal_by : Option End → Place → ℕ → Option Pid → List ℕ
-signal_by end place last None = shape_text Line (codes "signal") (record { 0 = place.x; 1 = place.y; 2 = place.to; 3 = place.y })
+signal_by end place last None =
+    shape_text Line (codes "signal")
+    (record { 0 = place.x; 1 = place.y; 2 = place.to; 3 = place.y })
 signal_by end place last (Some holder) = held_text place last end
 
 -- a signal: an arrow to its target, which is bent to the commit where a transaction holds it
 unfoldable pub signal_text : Place → List Span → ℕ → ℕ → Row → List ℕ
-signal_text place strips last number row = signal_by (end_at strips (process_of row.step) number) place last row.holder
+signal_text place strips last number row =
+    signal_by (end_at strips (process_of row.step) number) place last row.holder

@@ -1,5 +1,5 @@
--- Where things are in a picture, in pixels. A column is 48 wide, and a row 24 high. The numbers of the processes are above the
--- first row, and again above each 40 rows more.
+-- Where things are in a picture, in pixels. A column is 48 wide, and a row 24 high. The numbers of
+-- the processes are above the first row, and again above each 40 rows more.
 use Rattle.std.specs.Prelude.{ℕ, ◌+◌, ◌*◌, ◌-◌, ◌/◌, Bool, List, length, min, if◌then◌else◌, nat_lt}
 use Rattle.tx_base.specs.declared.names.Pid.{Pid}
 use Rattle.tx_picture.specs.Columns.{column_of}

@@ -1,5 +1,5 @@
--- Which bytes go through pipes from which write to which read. The bytes that a pipe holds are the last so many that were
--- written to it, and a read takes the first of them. Own rules.
+-- Which bytes go through pipes from which write to which read. The bytes that a pipe holds are the
+-- last so many that were written to it, and a read takes the first of them. Own rules.
 use Rattle.std.specs.Prelude.{ℕ, ◌-◌, Bool, true, false, ◌&&◌, ◌==◌, List, [], ◌∷◌, ◌++◌, Option, Some, None, fold, if◌then◌else◌, map, nat_lt}
 use Rattle.tx_base.specs.declared.names.Pid.{Pid}
 use Rattle.tx_base.specs.declared.names.PipeNo.{PipeNo}
@@ -24,7 +24,8 @@ abbrev pub is_inside : Option Pid → Written → Bool
 is_inside None written = false
 is_inside (Some starter) written = is_starter starter written.holder
 
--- a write of the transaction that a step was made inside of: a commit lets go of it, and after an abort it has put nothing
+-- a write of the transaction that a step was made inside of: a commit lets go of it, and after an
+-- abort it has put nothing
 abbrev pub let_go : Reply → Written → Written
 let_go (Committed undelivered) written = record written { holder = None }
 let_go (Aborted status) written = record written { count = 0 }
@@ -41,7 +42,14 @@ settled starter reply written = if is_inside starter written then let_go reply w
 
 -- a write by which so many bytes went to a pipe
 abbrev pub put : Transfer → PipeNo → ℕ → Written
-put transfer pipe count = record { process = transfer.process; pipe = pipe; row = transfer.row; count = count; holder = transfer.starter }
+put transfer pipe count =
+    record {
+      process = transfer.process;
+      pipe = pipe;
+      row = transfer.row;
+      count = count;
+      holder = transfer.starter;
+    }
 
 abbrev pub new_written : Transfer → ℕ → Option Access → List Written
 new_written transfer count None = []
@@ -50,7 +58,9 @@ new_written transfer count (Some (Takes pipe held)) = []
 
 -- after a step that was answered so
 abbrev pub written_after : Transfer → Reply → List Written → List Written
-written_after transfer reply written = new_written transfer (moved reply) transfer.access ++ map (settled transfer.starter reply) written
+written_after transfer reply written =
+    new_written transfer (moved reply) transfer.access
+    ++ map (settled transfer.starter reply) written
 
 -- Reads
 
@@ -61,34 +71,58 @@ pub record Taking : Type 0 where
   pub passages : List Passage
 
 abbrev pub passage : Reading → Written → Passage
-passage reading written = record { writer = written.process; written = written.row; reader = reading.process; read = reading.row }
+passage reading written =
+    record {
+      writer = written.process;
+      written = written.row;
+      reader = reading.process;
+      read = reading.row;
+    }
 
--- whether a write has bytes in the pipe, and the read takes the first of these, where so many of all are older than they are
+-- whether a write has bytes in the pipe, and the read takes the first of these, where so many of
+-- all are older than they are
 abbrev pub takes_some : Reading → ℕ → ℕ → Bool
 takes_some reading rest older = nat_lt older rest && nat_lt older reading.count
 
 abbrev pub taken_with : Reading → Written → ℕ → Taking → Taking
 taken_with reading written older taking = record {
   rest = older;
-  passages = if takes_some reading taking.rest older then taking.passages ++ passage reading written ∷ [] else taking.passages;
+  passages =
+      if takes_some reading taking.rest older
+      then taking.passages ++ passage reading written ∷ []
+      else taking.passages;
 }
 
 -- one write more, which is older
 abbrev pub taken_from : Reading → Taking → Written → Taking
-taken_from reading taking written = if written.pipe.0 == reading.pipe.0 then taken_with reading written (taking.rest - written.count) taking else taking
+taken_from reading taking written =
+    if written.pipe.0 == reading.pipe.0
+    then taken_with reading written (taking.rest - written.count) taking
+    else taking
 
 -- a passage more from each write whose bytes the read takes
 abbrev pub taken : Reading → List Written → List Passage → List Passage
-taken reading written passages = (fold (taken_from reading) (record { rest = reading.held; passages = passages }) written).passages
+taken reading written passages =
+    (fold (taken_from reading) (record { rest = reading.held; passages = passages })
+    written).passages
 
 abbrev pub reading_of : Transfer → PipeNo → ℕ → ℕ → Reading
-reading_of transfer pipe held count = record { process = transfer.process; row = transfer.row; pipe = pipe; held = held; count = count }
+reading_of transfer pipe held count =
+    record {
+      process = transfer.process;
+      row = transfer.row;
+      pipe = pipe;
+      held = held;
+      count = count;
+    }
 
 abbrev pub taken_by : Transfer → ℕ → Option Access → List Written → List Passage → List Passage
 taken_by transfer count None written passages = passages
 taken_by transfer count (Some (Puts pipe)) written passages = passages
-taken_by transfer count (Some (Takes pipe held)) written passages = taken (reading_of transfer pipe held count) written passages
+taken_by transfer count (Some (Takes pipe held)) written passages =
+    taken (reading_of transfer pipe held count) written passages
 
 -- after a step that was answered so, which these writes precede
 abbrev pub passages_after : Transfer → Reply → List Written → List Passage → List Passage
-passages_after transfer reply written passages = taken_by transfer (moved reply) transfer.access written passages
+passages_after transfer reply written passages =
+    taken_by transfer (moved reply) transfer.access written passages

@@ -19,8 +19,22 @@ pub record Page : Type 0 where
   pub captioned : Captioned
 
 abbrev pub page_as : Sheet → Page
-page_as sheet = record { columns = sheet.columns.now; strips = sheet.strips.now; before = sheet.before; last = sheet.last; captioned = captioned_as sheet.captions.now }
+page_as sheet =
+    record {
+      columns = sheet.columns.now;
+      strips = sheet.strips.now;
+      before = sheet.before;
+      last = sheet.last;
+      captioned = captioned_as sheet.captions.now;
+    }
 
 -- of what there is to draw
 abbrev pub page_of : Captioned → Drawn → Page
-page_of captioned drawn = record { columns = columns_of drawn; strips = drawn.strips; before = drawn.before; last = length drawn.rows; captioned = captioned }
+page_of captioned drawn =
+    record {
+      columns = columns_of drawn;
+      strips = drawn.strips;
+      before = drawn.before;
+      last = length drawn.rows;
+      captioned = captioned;
+    }

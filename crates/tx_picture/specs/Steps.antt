@@ -1,4 +1,5 @@
--- How the steps of a schedule are shown: each by a mark in its process's column and in its own row, in order.
+-- How the steps of a schedule are shown: each by a mark in its process's column and in its own row,
+-- in order.
 use Rattle.std.specs.Prelude.{ℕ, ℤ, pos, negsuc, ◌+◌, Bool, List, [], ◌∷◌, ◌++◌, map, Option, Some, None, codes, if◌then◌else◌}
 use Rattle.std.specs.Fmt.{decimal}
 use Rattle.tx_base.specs.declared.names.Pid.{Pid}
@@ -42,10 +43,19 @@ line_text class x y to = shape_text Line class (record { 0 = x; 1 = y; 2 = to; 3
 -- what leads from a mark to another column
 abbrev pub tie_text : Page → ℕ → Row → Option Tie → List ℕ
 tie_text page number row None = []
-tie_text page number row (Some (Holder starter)) = line_text (codes "refusal") (x_of page.columns (process_of row.step)) (y_of number) (x_of page.columns starter.0)
-tie_text page number row (Some (Child child)) = line_text (codes "fork") (x_of page.columns (process_of row.step)) (y_of number) (x_of page.columns child.0)
+tie_text page number row (Some (Holder starter)) =
+    line_text (codes "refusal") (x_of page.columns (process_of row.step)) (y_of number)
+    (x_of page.columns starter.0)
+tie_text page number row (Some (Child child)) =
+    line_text (codes "fork") (x_of page.columns (process_of row.step)) (y_of number)
+    (x_of page.columns child.0)
 tie_text page number row (Some (Signal target)) =
-    signal_text (record { x = x_of page.columns (process_of row.step); y = y_of number; to = x_of page.columns target.0 }) page.strips page.last number row
+    signal_text
+    (record {
+      x = x_of page.columns (process_of row.step);
+      y = y_of number;
+      to = x_of page.columns target.0;
+    }) page.strips page.last number row
 
 abbrev pub tied_text : Page → ℕ → Row → List ℕ
 tied_text page number row = tie_text page number row (tie_of row.step row.reply)
@@ -53,7 +63,8 @@ tied_text page number row = tie_text page number row (tie_of row.step row.reply)
 -- the name of a child below its fork, where its number was that of another process
 abbrev pub child_text : Page → ℕ → Pid → List ℕ
 child_text page number child =
-    let k = page.before + number in if is_anew page.captioned child.0 k then name_text page k (y_of number + 14) child else []
+    let k = page.before + number in
+    if is_anew page.captioned child.0 k then name_text page k (y_of number + 14) child else []
 
 abbrev pub anew_text : Page → ℕ → Option Tie → List ℕ
 anew_text page number None = []
@@ -66,7 +77,8 @@ abbrev pub joined : List (List ℕ) → List ℕ
 joined [] = []
 joined (word ∷ words) = word ++ spaced words
 
--- a step: each word as its author wrote it, shown so, or as version 2 spells it where there is no such line
+-- a step: each word as its author wrote it, shown so, or as version 2 spells it where there is no
+-- such line
 abbrev pub step_words : (List ℕ → List ℕ) → Option (List ℕ) → Step → List ℕ
 step_words shown None step = step_text step
 step_words shown (Some line) step = joined (map shown (words_in line))
@@ -74,7 +86,8 @@ step_words shown (Some line) step = joined (map shown (words_in line))
 -- what a step is, and what it was answered, with the name of an error
 abbrev pub words_of : (List ℕ → List ℕ) → Page → ℕ → Row → List ℕ
 words_of shown page number row =
-    step_words shown (line_of page.captioned (page.before + number)) row.step ++ (codes " : " ++ named_reply_text row.reply)
+    step_words shown (line_of page.captioned (page.before + number)) row.step
+    ++ (codes " : " ++ named_reply_text row.reply)
 
 -- as it is shown, and the whole
 abbrev pub shown_words : Page → ℕ → Row → List ℕ
@@ -94,7 +107,8 @@ label_text page number row =
     let shown = shown_words page number row in
     let whole = whole_words page number row in
     words_text (codes "number") 64 y (decimal (page.before + number))
-    ++ (left_text (is_wide page.columns) y shown whole ++ titled_text (codes "step") (words_left page.columns + 8) y shown whole)
+    ++ (left_text (is_wide page.columns) y shown whole
+    ++ titled_text (codes "step") (words_left page.columns + 8) y shown whole)
 
 abbrev pub row_text : Page → ℕ → Row → List ℕ
 row_text page number row =

@@ -26,7 +26,8 @@ sent_to (Calls p (Kill target signo)) = target_of target signo
 sent_to (Calls p (Sigqueue target signo value)) = target_of target signo
 sent_to step = None
 
--- of a step that was answered a number: to the child of a fork, and to the process that it has sent a signal to
+-- of a step that was answered a number: to the child of a fork, and to the process that it has sent
+-- a signal to
 abbrev pub answered_tie : Step → ℤ → Option Tie
 answered_tie (Calls p (Fork child)) answer = Some (Child child)
 answered_tie step answer = if int_eq answer (pos 0) then option_map Signal (sent_to step) else None

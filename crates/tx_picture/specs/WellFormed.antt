@@ -1,5 +1,5 @@
--- What is a well-formed document of XML: one element holds all, each that is opened is closed, none has an attribute twice, and
--- a text between them is escaped.
+-- What is a well-formed document of XML: one element holds all, each that is opened is closed, none
+-- has an attribute twice, and a text between them is escaped.
 use Rattle.std.specs.Prelude.{ℕ, Bool, true, false, ◌&&◌, ◌||◌, not, List, [], ◌∷◌, ◌++◌, nat_le, IsTrue}
 use Rattle.std.specs.Fmt.{decimal}
 use Rattle.std.specs.List.{list_all, list_any}
@@ -26,8 +26,10 @@ pub data IsValue : List ℕ → Type 0 where
 -- attributes of these names
 pub data AreAttributes : List (List ℕ) → List ℕ → Type 0 where
   none : AreAttributes [] []
-  one : (name value : List ℕ) → IsTrue (is_name name) → IsValue value → AreAttributes (name ∷ []) (attribute name value)
-  more : (names others : List (List ℕ)) (first second : List ℕ) → AreAttributes names first → AreAttributes others second → AreAttributes (names ++ others) (first ++ second)
+  one : (name value : List ℕ) → IsTrue (is_name name) → IsValue value
+      → AreAttributes (name ∷ []) (attribute name value)
+  more : (names others : List (List ℕ)) (first second : List ℕ) → AreAttributes names first
+      → AreAttributes others second → AreAttributes (names ++ others) (first ++ second)
 
 -- none is there twice
 abbrev pub are_distinct : List (List ℕ) → Bool
@@ -38,12 +40,18 @@ are_distinct (name ∷ names) = not (list_any (bytes_eq name) names) && are_dist
 pub data IsContent : List ℕ → Type 0 where
   nothing : IsContent []
   words : (bytes : List ℕ) → IsContent (escaped bytes)
-  empty : (name : List ℕ) (names : List (List ℕ)) (attributes : List ℕ) → IsTrue (is_name name) → AreAttributes names attributes → IsTrue (are_distinct names) → IsContent (empty_element name attributes)
-  holding : (name : List ℕ) (names : List (List ℕ)) (attributes inner : List ℕ) → IsTrue (is_name name) → AreAttributes names attributes → IsTrue (are_distinct names) → IsContent inner
+  empty : (name : List ℕ) (names : List (List ℕ)) (attributes : List ℕ) → IsTrue (is_name name)
+      → AreAttributes names attributes → IsTrue (are_distinct names)
+      → IsContent (empty_element name attributes)
+  holding : (name : List ℕ) (names : List (List ℕ)) (attributes inner : List ℕ)
+      → IsTrue (is_name name) → AreAttributes names attributes → IsTrue (are_distinct names)
+      → IsContent inner
       → IsContent (element name attributes inner)
-  beside : (first second : List ℕ) → IsContent first → IsContent second → IsContent (first ++ second)
+  beside : (first second : List ℕ) → IsContent first → IsContent second
+      → IsContent (first ++ second)
 
 -- one element
 pub data IsWellFormed : List ℕ → Type 0 where
-  root : (name : List ℕ) (names : List (List ℕ)) (attributes inner : List ℕ) → IsTrue (is_name name) → AreAttributes names attributes → IsTrue (are_distinct names) → IsContent inner
+  root : (name : List ℕ) (names : List (List ℕ)) (attributes inner : List ℕ) → IsTrue (is_name name)
+      → AreAttributes names attributes → IsTrue (are_distinct names) → IsContent inner
       → IsWellFormed (element name attributes inner)

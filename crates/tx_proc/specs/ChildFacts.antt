@@ -10,14 +10,18 @@ use Rattle.tx_proc.specs.Children.{is_child_of, child_count}
 use Rattle.tx_proc.specs.declared.proc.Proc.{Proc}
 
 -- where a number has no children, no slot has one
-pub no_child : (p : ℕ) (slots : List (Option Proc)) (n : ℕ) → child_count p slots ≡ 0 → has_parent p (process_in (slot_at slots n)) ≡ false
+pub no_child : (p : ℕ) (slots : List (Option Proc)) (n : ℕ) → child_count p slots ≡ 0
+    → has_parent p (process_in (slot_at slots n)) ≡ false
 no_child p slots zero none = refl
 no_child p slots (suc n) none = elim (cases_Bool (nat_lt n (length slots))) [
-  | inl there ↦ let hits = get_or-le-sum_by (λ slot. if is_child_of p slot then 1 else 0) slots n None (ltb-true n (length slots) there) in by (get_or slots n None) (omega (arith, hits, none))
+  | inl there ↦ let hits =
+      get_or-le-sum_by (λ slot. if is_child_of p slot then 1 else 0) slots n None
+      (ltb-true n (length slots) there) in by (get_or slots n None) (omega (arith, hits, none))
   | inr past ↦ rw (get_or_past slots n None (ltb-false n (length slots) past)) refl
 ]
   where
-    by : (slot : Option Proc) → (if is_child_of p slot then 1 else 0) ≤ 0 → has_parent p (process_in slot) ≡ false
+    by : (slot : Option Proc) → (if is_child_of p slot then 1 else 0) ≤ 0
+        → has_parent p (process_in slot) ≡ false
     by None small = refl
     by (Some proc) small = test (proc.parent.0 == p) small
       where

@@ -30,9 +30,11 @@ one_of p (Some parent) = if parent.0 == p then 1 else 0
 -- the counts after a process with the one parent is replaced by one with the other
 pub record Recounts (old new : Option Pid) (counts recounted : List ℕ) : Type 0 where
   pub width : length recounted ≡ length counts
-  pub each : (p : ℕ) → p < length counts → slice_index_or recounted p 0 + one_of p old ≡ slice_index_or counts p 0 + one_of p new
+  pub each : (p : ℕ) → p < length counts
+      → slice_index_or recounted p 0 + one_of p old ≡ slice_index_or counts p 0 + one_of p new
 
--- the process with this parent, if there is one, is counted, and there is room for one more of each parent
+-- the process with this parent, if there is one, is counted, and there is room for one more of each
+-- parent
 pub record HasOne (parent : Option Pid) (counts : List ℕ) : Type 0 where
   pub counted : (p : ℕ) → p < length counts → one_of p parent ≤ slice_index_or counts p 0
   pub few : (p : ℕ) → p < length counts → slice_index_or counts p 0 < length counts

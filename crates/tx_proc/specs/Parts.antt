@@ -1,5 +1,5 @@
--- The parts of a process, a table for each question about them: what an exchange of one leaves, which are the same, and what
--- the process is in the rules.
+-- The parts of a process, a table for each question about them: what an exchange of one leaves,
+-- which are the same, and what the process is in the rules.
 use Rattle.std.specs.Prelude.{ℕ, ◌<◌, ◌-◌, Bool, true, false, ◌==◌, List, [], ◌∷◌, ◌++◌, Option, Some, None, if◌then◌else◌, nat_lt, length, take, slice_index_or, slice_set}
 use Rattle.tx_base.specs.Signals.{bits_of, set_of_bits}
 use Rattle.tx_base.specs.declared.names.DescNo.{DescNo}
@@ -15,19 +15,23 @@ use Rattle.tx_proc.specs.declared.proc.Proc.{Proc}
 use Rattle.tx_signal.specs.Entries.{entry_swapped, entry_given}
 use Rattle.tx_signal.specs.Parts.{PendingView}
 
--- the queue after an exchange at a place, and the entry: with none, the entry there is taken out; one is put in before it
--- where there is room. A queue that is too long stays
+-- the queue after an exchange at a place, and the entry: with none, the entry there is taken out;
+-- one is put in before it where there is room. A queue that is too long stays
 abbrev pub queue_swapped : ℕ → Option Entry → List Entry → List Entry
-queue_swapped place entry queue = if nat_lt QUEUED (length queue) then queue else entry_swapped place entry queue
+queue_swapped place entry queue =
+    if nat_lt QUEUED (length queue) then queue else entry_swapped place entry queue
 
 abbrev pub queue_given : ℕ → Option Entry → List Entry → Option Entry
-queue_given place entry queue = if nat_lt QUEUED (length queue) then entry else entry_given place entry queue
+queue_given place entry queue =
+    if nat_lt QUEUED (length queue) then entry else entry_given place entry queue
 
--- the frames after an exchange: with none, the newest is taken out; one is put in where there is room. Too many
--- frames stay
+-- the frames after an exchange: with none, the newest is taken out; one is put in where there is
+-- room. Too many frames stay
 abbrev pub frames_swapped : Option Saved → List Saved → List Saved
-frames_swapped None frames = if nat_lt FRAMES (length frames) then frames else take (length frames - 1) frames
-frames_swapped (Some frame) frames = if nat_lt (length frames) FRAMES then frames ++ frame ∷ [] else frames
+frames_swapped None frames =
+    if nat_lt FRAMES (length frames) then frames else take (length frames - 1) frames
+frames_swapped (Some frame) frames =
+    if nat_lt (length frames) FRAMES then frames ++ frame ∷ [] else frames
 
 -- the frame that was taken out, or none where one was put in
 abbrev pub frame_given : Option Saved → List Saved → Option Saved
@@ -41,28 +45,40 @@ desc_in (Some d) = Some (record { 0 = d })
 
 -- a process with one of its parts replaced
 abbrev pub edited_once : Proc → Part → Proc
-edited_once proc (Answer answer) = record proc { regs = record proc.regs { point = answer.point; ret = answer.ret } }
-edited_once proc (Register slot) = record proc { regs = record proc.regs { slots = slice_set proc.regs.slots slot.number slot.value } }
+edited_once proc (Answer answer) =
+    record proc { regs = record proc.regs { point = answer.point; ret = answer.ret } }
+edited_once proc (Register slot) =
+    record proc {
+      regs = record proc.regs { slots = slice_set proc.regs.slots slot.number slot.value };
+    }
 edited_once proc (Parent parent) = record proc { parent = parent }
 edited_once proc (Status status) = record proc { status = status }
 edited_once proc (Cred cred) = record proc { cred = cred }
 edited_once proc (Page number page) = record proc { space = slice_set proc.space number page }
-edited_once proc (Descriptor number name) = record proc { descriptors = slice_set proc.descriptors number (number_in name) }
+edited_once proc (Descriptor number name) =
+    record proc { descriptors = slice_set proc.descriptors number (number_in name) }
 edited_once proc (Mask mask) = record proc { mask = mask }
-edited_once proc (Action signo action) = record proc { actions = slice_set proc.actions signo.0 action }
-edited_once proc (Pending set) = record proc { pending = record proc.pending { standard = bits_of set } }
-edited_once proc (Queued place entry) = record proc { pending = record proc.pending { queued = queue_swapped place entry proc.pending.queued } }
+edited_once proc (Action signo action) =
+    record proc { actions = slice_set proc.actions signo.0 action }
+edited_once proc (Pending set) =
+    record proc { pending = record proc.pending { standard = bits_of set } }
+edited_once proc (Queued place entry) =
+    record proc {
+      pending = record proc.pending { queued = queue_swapped place entry proc.pending.queued };
+    }
 edited_once proc (Frame frame) = record proc { frames = frames_swapped frame proc.frames }
 
 -- the same part of a process
 abbrev pub part_of : Proc → Part → Part
 part_of proc (Answer answer) = Answer (record { point = proc.regs.point; ret = proc.regs.ret })
-part_of proc (Register slot) = Register (record slot { value = slice_index_or proc.regs.slots slot.number slot.value })
+part_of proc (Register slot) =
+    Register (record slot { value = slice_index_or proc.regs.slots slot.number slot.value })
 part_of proc (Parent parent) = Parent proc.parent
 part_of proc (Status status) = Status proc.status
 part_of proc (Cred cred) = Cred proc.cred
 part_of proc (Page number page) = Page number (page_at proc.space number)
-part_of proc (Descriptor number name) = Descriptor number (desc_in (slice_index_or proc.descriptors number None))
+part_of proc (Descriptor number name) =
+    Descriptor number (desc_in (slice_index_or proc.descriptors number None))
 part_of proc (Mask mask) = Mask proc.mask
 part_of proc (Action signo action) = Action signo (slice_index_or proc.actions signo.0 action)
 part_of proc (Pending set) = Pending (set_of_bits proc.pending.standard)
@@ -128,13 +144,19 @@ process_in (Some proc) = Some (process_of proc)
 
 -- a process with one of its parts replaced, as the rules have it
 abbrev pub revised : Part → Process → Process
-revised (Answer answer) me = record me { registers = record me.registers { point = answer.point; ret = answer.ret } }
-revised (Register slot) me = record me { registers = record me.registers { slots = slice_set me.registers.slots slot.number slot.value } }
+revised (Answer answer) me =
+    record me { registers = record me.registers { point = answer.point; ret = answer.ret } }
+revised (Register slot) me =
+    record me {
+      registers =
+          record me.registers { slots = slice_set me.registers.slots slot.number slot.value };
+    }
 revised (Parent parent) me = record me { parent = parent.0 }
 revised (Status status) me = record me { status = status }
 revised (Cred cred) me = record me { ids = ids_of cred }
 revised (Page number page) me = record me { memory = slice_set me.memory number page }
-revised (Descriptor number name) me = record me { descriptors = slice_set me.descriptors number (number_in name) }
+revised (Descriptor number name) me =
+    record me { descriptors = slice_set me.descriptors number (number_in name) }
 revised (Mask mask) me = record me { mask = bits_of mask }
 revised (Action signo action) me = record me { actions = slice_set me.actions signo.0 action }
 revised (Pending set) me = record me { pending = bits_of set }

@@ -19,7 +19,10 @@ negative_of (suc n) = Some (negsuc n)
 -- the number that a text spells, with `-` before a negative one
 unfoldable pub number_of : List ℕ → Option ℤ
 number_of [] = None
-number_of (first ∷ rest) = if nat_eq first 45 then option_and_then negative_of (count_of rest) else option_map pos (count_of (first ∷ rest))
+number_of (first ∷ rest) =
+    if nat_eq first 45
+    then option_and_then negative_of (count_of rest)
+    else option_map pos (count_of (first ∷ rest))
 
 abbrev pub unless_faulty : {A E : Type 0} → Result A E → Option A
 unless_faulty (Ok found) = Some found

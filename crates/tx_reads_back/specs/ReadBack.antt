@@ -48,17 +48,31 @@ step_in_json number (Out bytes) = (Some number, Out bytes)
 
 -- the line of a step, without its end, reads back to what it says
 abbrev pub StepsReadBack : Type 0
-StepsReadBack = (number : ℕ) (reply : Reply) → number < 2 ^ 64 → IsTypedReply reply → step_of_json (print (step_answer number reply)) ≡ Some (step_in_json number reply)
+StepsReadBack =
+    (number : ℕ) (reply : Reply) → number < 2 ^ 64 → IsTypedReply reply
+    → step_of_json (print (step_answer number reply)) ≡ Some (step_in_json number reply)
 
 -- what the line of an entry says: its step by the text, from which `read_step` reads no other step
 abbrev pub entry_in_json : ℕ → Entry → JsonEntry
-entry_in_json number entry = record { number = number; worker = entry.worker; step = step_text entry.step; reply = entry.reply }
+entry_in_json number entry =
+    record {
+      number = number;
+      worker = entry.worker;
+      step = step_text entry.step;
+      reply = entry.reply;
+    }
 
 -- the line of an entry, without its end, reads back to what it says
 abbrev pub EntriesReadBack : Type 0
 EntriesReadBack =
-    (number : ℕ) (entry : Entry) → number < 2 ^ 64 → entry.worker < 2 ^ 16 → IsTypedReply entry.reply → entry_of_json (print (entry_line number entry)) ≡ Some (entry_in_json number entry)
+    (number : ℕ) (entry : Entry) → number < 2 ^ 64 → entry.worker < 2 ^ 16
+    → IsTypedReply entry.reply
+    → entry_of_json (print (entry_line number entry)) ≡ Some (entry_in_json number entry)
 
--- the line of a state, without its end, reads back to the position and to what it says of the state. What is required of the view holds after every lawful history, but for the types of its numbers
+-- the line of a state, without its end, reads back to the position and to what it says of the
+-- state. What is required of the view holds after every lawful history, but for the types of its
+-- numbers
 abbrev pub StatesReadBack : Type 0
-StatesReadBack = (at : ℕ) (V : View) → at < 2 ^ 64 → IsOfKernel V → state_of_json (print (state_answer at V)) ≡ Some (at, state_in_json V)
+StatesReadBack =
+    (at : ℕ) (V : View) → at < 2 ^ 64 → IsOfKernel V
+    → state_of_json (print (state_answer at V)) ≡ Some (at, state_in_json V)

@@ -115,7 +115,13 @@ frame_members tokens = do
   ret ← number_in (codes "ret") point.1
   mask ← set_in (codes "mask") ret.1
   slots ← list_in (codes "slots") number_at mask.1
-  Some (record { registers = record { point = point.0; ret = ret.0; slots = slots.0 }; mask = mask.0 }, slots.1)
+  Some (
+    record {
+      registers = record { point = point.0; ret = ret.0; slots = slots.0 };
+      mask = mask.0;
+    },
+    slots.1,
+  )
 
 unfoldable pub registers_in : Read Regs
 registers_in tokens = do
@@ -131,7 +137,8 @@ status_by None (Some killed) tokens = Some (Some (killed.0 + 256), killed.1)
 status_by None None tokens = Some (None, tokens)
 
 unfoldable pub status_in : Read (Option ℕ)
-status_in tokens = status_by (count_in (codes "exit") tokens) (count_in (codes "killed") tokens) tokens
+status_in tokens =
+    status_by (count_in (codes "exit") tokens) (count_in (codes "killed") tokens) tokens
 
 -- what has to do with signals
 pub record JsonSignals : Type 0 where
@@ -148,9 +155,19 @@ signals_in tokens = do
   pending ← set_in (codes "pending") actions.1
   queued ← list_in (codes "queued") (object_by entry_members) pending.1
   frames ← list_in (codes "frames") (object_by frame_members) queued.1
-  Some (record { mask = mask.0; actions = actions.0; pending = pending.0; queued = queued.0; frames = frames.0 }, frames.1)
+  Some (
+    record {
+      mask = mask.0;
+      actions = actions.0;
+      pending = pending.0;
+      queued = queued.0;
+      frames = frames.0;
+    },
+    frames.1,
+  )
 
-abbrev pub process_with : ℕ → Option ℕ → Regs → Ids → Memory → List (Option ℕ) → JsonSignals → Process
+abbrev pub process_with : ℕ → Option ℕ → Regs → Ids → Memory → List (Option ℕ) → JsonSignals
+    → Process
 process_with parent status registers ids memory descriptors signals = record {
   registers = registers;
   parent = parent;

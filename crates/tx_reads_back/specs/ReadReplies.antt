@@ -20,23 +20,28 @@ named_by (one ∷ rest) word = if bytes_eq one.0 word then Some one.1 else named
 
 abbrev pub numbered_by : {A : Type 0} → List (ℕ × A) → ℕ → Option A
 numbered_by [] number = None
-numbered_by (one ∷ rest) number = if nat_eq one.0 number then Some one.1 else numbered_by rest number
+numbered_by (one ∷ rest) number =
+    if nat_eq one.0 number then Some one.1 else numbered_by rest number
 
 abbrev pub errors : List (ℕ × Errno)
 errors =
-    (1, NotPermitted) ∷ (3, NoSuchProcess) ∷ (9, BadDescriptor) ∷ (10, NoChild) ∷ (11, TryAgain) ∷ (14, BadAddress) ∷ (22, InvalidArgument)
+    (1, NotPermitted) ∷ (3, NoSuchProcess) ∷ (9, BadDescriptor) ∷ (10, NoChild) ∷ (11, TryAgain)
+    ∷ (14, BadAddress) ∷ (22, InvalidArgument)
     ∷ (24, TooManyDescriptors) ∷ (32, BrokenPipe) ∷ []
 
 -- all refusals but the one that names who is in the way
 abbrev pub refusals : List (List ℕ × Refusal)
 refusals =
-    (codes "N1", NoProcess) ∷ (codes "N2", NotRunning) ∷ (codes "N3", BadNumber) ∷ (codes "N4", NumberTaken) ∷ (codes "N5", Doomed) ∷ (codes "N6", Parked)
-    ∷ (codes "N7", KillPending) ∷ (codes "N9", Wait) ∷ (codes "N10", NotDeliverable) ∷ (codes "N11", FramesFull) ∷ (codes "N12", NoTransaction)
+    (codes "N1", NoProcess) ∷ (codes "N2", NotRunning) ∷ (codes "N3", BadNumber)
+    ∷ (codes "N4", NumberTaken) ∷ (codes "N5", Doomed) ∷ (codes "N6", Parked)
+    ∷ (codes "N7", KillPending) ∷ (codes "N9", Wait) ∷ (codes "N10", NotDeliverable)
+    ∷ (codes "N11", FramesFull) ∷ (codes "N12", NoTransaction)
     ∷ (codes "N13", NoMemory) ∷ (codes "N14", Deferred) ∷ []
 
 -- a send that could not be delivered
 abbrev pub missed_of : ℕ → ℕ → Errno → Missed
-missed_of target signo errno = record { target = record { 0 = target }; signo = record { 0 = signo }; errno = errno }
+missed_of target signo errno =
+    record { target = record { 0 = target }; signo = record { 0 = signo }; errno = errno }
 
 unfoldable pub missed_members : Read Missed
 missed_members tokens = do

@@ -6,14 +6,16 @@ use Rattle.tx_reads_back.specs.ReadProcesses.{found_at, process_members}
 use Rattle.tx_reads_back.specs.ReadReplies.{named_by}
 use Rattle.tx_reads_back.specs.Reading.{◌>>=◌, after_key, bytes_in, count_at, count_in, flag_in, list_in, number_in, object_by, whole, word_in, Read}
 
--- a live transaction: whether it defers deliveries, the members whose part is open or ended, and the sends that it holds, without their senders
+-- a live transaction: whether it defers deliveries, the members whose part is open or ended, and
+-- the sends that it holds, without their senders
 pub record JsonTxn : Type 0 where
   pub defers : Bool
   pub open_parts : List ℕ
   pub ended_parts : List ℕ
   pub held : List Sending
 
--- what is said of a state, by number: processes, descriptions and pipes, and live transactions by their starters
+-- what is said of a state, by number: processes, descriptions and pipes, and live transactions by
+-- their starters
 pub record JsonState : Type 0 where
   pub procs : ℕ → Option Process
   pub descs : ℕ → Option Description
@@ -51,7 +53,15 @@ lists_in defers tokens = do
   open_parts ← list_in (codes "open") count_at tokens
   ended_parts ← list_in (codes "ended") count_at open_parts.1
   held ← list_in (codes "held") (object_by held_members) ended_parts.1
-  Some (record { defers = defers; open_parts = open_parts.0; ended_parts = ended_parts.0; held = held.0 }, held.1)
+  Some (
+    record {
+      defers = defers;
+      open_parts = open_parts.0;
+      ended_parts = ended_parts.0;
+      held = held.0;
+    },
+    held.1,
+  )
 
 unfoldable pub txn_members : Read (ℕ × JsonTxn)
 txn_members tokens = do
@@ -72,7 +82,15 @@ unfoldable pub state_members : Read JsonState
 state_members tokens = do
   parts ← parts_in tokens
   txns ← list_in (codes "txns") (object_by txn_members) parts.1
-  Some (record { procs = found_at parts.0.0; descs = found_at parts.0.1; pipes = found_at parts.0.2; txns = found_at txns.0 }, txns.1)
+  Some (
+    record {
+      procs = found_at parts.0.0;
+      descs = found_at parts.0.1;
+      pipes = found_at parts.0.2;
+      txns = found_at txns.0;
+    },
+    txns.1,
+  )
 
 -- a position, and the state there
 unfoldable pub place_members : Read (ℕ × JsonState)

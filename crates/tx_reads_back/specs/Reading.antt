@@ -87,7 +87,8 @@ object_by members tokens = do
   Some (found.0, rest)
 
 -- the items of a list up to its end: the number bounds them
-abbrev pub items_step : {A : Type 0} → Read A → Read (List A) → List Token → Option (List Token) → Option (List A × List Token)
+abbrev pub items_step : {A : Type 0} → Read A → Read (List A) → List Token → Option (List Token)
+    → Option (List A × List Token)
 items_step item more tokens (Some rest) = Some ([], rest)
 items_step item more tokens None = do
   one ← item tokens
@@ -96,7 +97,8 @@ items_step item more tokens None = do
 
 unfoldable pub items_by : {A : Type 0} → Read A → ℕ → Read (List A)
 items_by item zero tokens = None
-items_by item (suc most) tokens = items_step item (items_by item most) tokens (after_end_array tokens)
+items_by item (suc most) tokens =
+    items_step item (items_by item most) tokens (after_end_array tokens)
 
 -- a member of that name that is a list; it has no more items than there are tokens
 unfoldable pub list_in : {A : Type 0} → List ℕ → Read A → Read (List A)

@@ -130,7 +130,8 @@ abbrev pub RestingAreSame : Type 0
 RestingAreSame = (S T : State) → EndedRest S → EndedRest T →
     shown_state S ≡ shown_state T → (n : ℕ) → S.procs n ≡ T.procs n
 
--- the view of every lawful history from a booted state has what the law requires, but for the types of its numbers
+-- the view of every lawful history from a booted state has what the law requires, but for the types
+-- of its numbers
 abbrev pub HistoriesAreOfKernel : Type 0
 HistoriesAreOfKernel = (width count : ℕ) (history : List Accepted) →
     1 ≤ count → count ≤ width → Lawful (boot_state width count) history →

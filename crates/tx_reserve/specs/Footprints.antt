@@ -1,4 +1,5 @@
--- What the footprint of a step depends on: the marks, and what the transaction holds if the step commits it.
+-- What the footprint of a step depends on: the marks, and what the transaction holds if the step
+-- commits it.
 use Rattle.std.specs.Prelude.{◌≡◌, ℕ, Bool, true, false, not, ◌==◌, List, Option, Some, None, if◌then◌else◌, length, map}
 use Rattle.tx_base.specs.Slots.{slot_at}
 use Rattle.tx_base.specs.declared.marks.Mark.{Mark}
@@ -36,9 +37,11 @@ pub record IsPlaced (actor : Actor) : Type 0 where
 
 -- the step is made inside the transaction that the marks say
 abbrev pub IsInside : Actor → List (Option Mark) → Type 0
-IsInside actor marks = inside_of actor.inside ≡ inside_by (table_at actor marks) (slot_at marks actor.pid.0)
+IsInside actor marks =
+    inside_of actor.inside ≡ inside_by (table_at actor marks) (slot_at marks actor.pid.0)
 
--- whether the call of process p, which runs, ends its part of a transaction: an exit does, unless that is process 1, and a sys_xend
+-- whether the call of process p, which runs, ends its part of a transaction: an exit does, unless
+-- that is process 1, and a sys_xend
 abbrev pub ends_part : ℕ → Call → Bool
 ends_part p (call.Exit status) = not (p == 1)
 ends_part p call.SysXend = true
@@ -46,27 +49,36 @@ ends_part p call = false
 
 -- whether a delivery of the signal now ends the process that makes the step
 abbrev pub ends_actor : Actor → Signo → Bool
-ends_actor actor signo = ends_by (inside_of actor.inside) signo.0 (me_of actor) (delivered_value signo.0 (me_of actor))
+ends_actor actor signo =
+    ends_by (inside_of actor.inside) signo.0 (me_of actor) (delivered_value signo.0 (me_of actor))
 
--- held sends are given exactly where the process is a member and no other member's part is open, and they are the transaction's
+-- held sends are given exactly where the process is a member and no other member's part is open,
+-- and they are the transaction's
 abbrev pub GoesBy : Table → ℕ → Option Mark → Option (List Sending) → (ℕ → List TheSending) → Type 0
 GoesBy t p None None held = Unit {0}
 GoesBy t p None (Some sends) held = ⊥
 GoesBy t p (Some mark) None held = others_open t mark.starter.0 p t.width ≡ true
-GoesBy t p (Some mark) (Some sends) held = (others_open t mark.starter.0 p t.width ≡ false) × (held mark.starter.0 ≡ map sending_of sends)
+GoesBy t p (Some mark) (Some sends) held =
+    (others_open t mark.starter.0 p t.width ≡ false) × (held mark.starter.0 ≡ map sending_of sends)
 
-abbrev pub GoesWith : Actor → List (Option Mark) → Option (List Sending) → (ℕ → List TheSending) → Type 0
-GoesWith actor marks last held = GoesBy (table_at actor marks) actor.pid.0 (slot_at marks actor.pid.0) last held
+abbrev pub GoesWith : Actor → List (Option Mark) → Option (List Sending) → (ℕ → List TheSending)
+    → Type 0
+GoesWith actor marks last held =
+    GoesBy (table_at actor marks) actor.pid.0 (slot_at marks actor.pid.0) last held
 
--- this holds if the step ends its process's part: any other step commits nothing, and what is given then does not matter
-abbrev pub GoesIf : Bool → Actor → List (Option Mark) → Option (List Sending) → (ℕ → List TheSending) → Type 0
+-- this holds if the step ends its process's part: any other step commits nothing, and what is given
+-- then does not matter
+abbrev pub GoesIf : Bool → Actor → List (Option Mark) → Option (List Sending)
+    → (ℕ → List TheSending) → Type 0
 GoesIf ends actor marks last held = ends ≡ true → GoesWith actor marks last held
 
 -- the same for a call, and for a delivery
-abbrev pub GoesWithCall : Actor → List (Option Mark) → Call → Option (List Sending) → (ℕ → List TheSending) → Type 0
+abbrev pub GoesWithCall : Actor → List (Option Mark) → Call → Option (List Sending)
+    → (ℕ → List TheSending) → Type 0
 GoesWithCall actor marks call last held = GoesIf (ends_part actor.pid.0 call) actor marks last held
 
-abbrev pub GoesWithDelivery : Actor → List (Option Mark) → Signo → Option (List Sending) → (ℕ → List TheSending) → Type 0
+abbrev pub GoesWithDelivery : Actor → List (Option Mark) → Signo → Option (List Sending)
+    → (ℕ → List TheSending) → Type 0
 GoesWithDelivery actor marks signo last held = GoesIf (ends_actor actor signo) actor marks last held
 
 -- this is what the transaction holds in which a process of this mark is a member
@@ -92,4 +104,6 @@ pub record IsSetOf (objects : Objects) (these : List Object) : Type 0 where
 
 -- these objects were put into the set
 pub record Adds (before after : Objects) (these : List Object) : Type 0 where
-  pub each : (o : Object) → is_in after o ≡ (if is_in before o then true else (if is_small o then has_object o these else false))
+  pub each : (o : Object)
+      → is_in after o
+      ≡ (if is_in before o then true else (if is_small o then has_object o these else false))

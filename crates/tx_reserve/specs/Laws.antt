@@ -12,23 +12,29 @@ use Rattle.tx_base.specs.declared.names.Pid.{Pid}
 use Rattle.tx_reserve.specs.Objects.{is_small}
 use Rattle.tx_reserve.specs.Reservations.{owner_of}
 
--- whether the object's number is in range: a process 1 to the width, a description 0 to 63, a pipe 0 to 31
+-- whether the object's number is in range: a process 1 to the width, a description 0 to 63, a pipe
+-- 0 to 31
 abbrev pub is_within : ℕ → Object → Bool
 is_within width (Proc n) = is_between width n
 is_within width (Desc n) = nat_lt n 64
 is_within width (Pipe n) = nat_lt n 32
 is_within width (Held s) = false
 
--- in a well-formed state, the footprint of a step of a process that runs, which chooses no bad number, has only objects of numbers in range
+-- in a well-formed state, the footprint of a step of a process that runs, which chooses no bad
+-- number, has only objects of numbers in range
 abbrev pub FootprintIsWithin : Type 0
 FootprintIsWithin =
-    (t : Table) (step : Step) (S : State) (o : Object) → IsWellFormed S → is_running (S.procs (process_of step)) ≡ true → has_bad_number S.width step ≡ false
+    (t : Table) (step : Step) (S : State) (o : Object) → IsWellFormed S
+    → is_running (S.procs (process_of step)) ≡ true → has_bad_number S.width step ≡ false
     → has_object o (footprint t step S) ≡ true → is_within S.width o ≡ true
 
 -- a set may have such an object, where there are at most 256 process numbers
 abbrev pub WithinIsSmall : Type 0
-WithinIsSmall = (width : ℕ) (o : Object) → width ≤ 256 → is_within width o ≡ true → is_small o ≡ true
+WithinIsSmall =
+    (width : ℕ) (o : Object) → width ≤ 256 → is_within width o ≡ true → is_small o ≡ true
 
 -- two tables of owners are the same if each object has the same owner in both
 abbrev pub OwnersAreExtensional : Type 0
-OwnersAreExtensional = (one other : List (Option Pid)) → length one ≡ 352 → length other ≡ 352 → ((o : Object) → owner_of one o ≡ owner_of other o) → one ≡ other
+OwnersAreExtensional =
+    (one other : List (Option Pid)) → length one ≡ 352 → length other ≡ 352
+    → ((o : Object) → owner_of one o ≡ owner_of other o) → one ≡ other

@@ -1,4 +1,5 @@
--- Sets of objects, as the bits of words: a place for each number of a process, a description or a pipe.
+-- Sets of objects, as the bits of words: a place for each number of a process, a description or a
+-- pipe.
 use Rattle.std.specs.Prelude.{◌≡◌, ℕ, ◌+◌, ◌-◌, ◌/◌, ◌%◌, ◌<◌, Bool, true, false, List, if◌then◌else◌, ◌==◌, nat_lt, slice_index, sum}
 use Rattle.std.specs.Int.{bit_at}
 use Rattle.tx_model.specs.State.{Object, Proc, Desc, Pipe, Held, is_between, same_object}
@@ -28,7 +29,10 @@ place_of (Held s) = 352
 
 -- the object of a place below 352
 unfoldable pub object_at : ℕ → Object
-object_at place = if nat_lt place 256 then Proc (place + 1) else (if nat_lt place 320 then Desc (place - 256) else Pipe (place - 320))
+object_at place =
+    if nat_lt place 256
+    then Proc (place + 1)
+    else (if nat_lt place 320 then Desc (place - 256) else Pipe (place - 320))
 
 -- whether the bit of a place is set, of words of 32 bits
 unfoldable pub has_place : List ℕ → ℕ → Bool

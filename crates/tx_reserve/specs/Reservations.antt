@@ -10,7 +10,8 @@ number_of pid = pid.0
 
 -- the object's owner, if it has one: the starter in its place
 unfoldable pub owner_of : List (Option Pid) → Object → Option ℕ
-owner_of places o = if is_small o then option_map number_of (slice_index_or places (place_of o) None) else None
+owner_of places o =
+    if is_small o then option_map number_of (slice_index_or places (place_of o) None) else None
 
 -- the owner, unless it is this one
 abbrev pub unless : Option ℕ → Option ℕ → Option ℕ
@@ -31,7 +32,8 @@ IsAtMost None (Some t) = ⊥
 IsAtMost (Some s) (Some t) = s ≤ t
 
 -- the number after is the least of the one before and of those that these places have
-pub record IsLeastWith (these : ℕ → Type 0) (number : ℕ → Option ℕ) (before after : Option ℕ) : Type 0 where
+pub record IsLeastWith (these : ℕ → Type 0) (number : ℕ → Option ℕ) (before after : Option ℕ)
+    : Type 0 where
   pub from : (after ≡ before) ⊎ ((place : ℕ) × ((these place) × (number place ≡ after)))
   pub to_before : IsAtMost after before
   pub to_each : (place : ℕ) → these place → IsAtMost after (number place)

@@ -1,4 +1,5 @@
--- What the commands of a debugger respond, and its text: functions only of the history of the schedule and of the position.
+-- What the commands of a debugger respond, and its text: functions only of the history of the
+-- schedule and of the position.
 use Rattle.std.specs.Prelude.{ℕ, zero, suc, ◌+◌, List, [], ◌∷◌, ◌++◌, Option, Some, None, length, nat_le, nat_lt, reverse, take, codes, if◌then◌else◌}
 use Rattle.std.specs.Fmt.{decimal}
 use Rattle.tx_base.specs.declared.steps.Accepted.{Accepted}
@@ -30,7 +31,9 @@ position_text at = codes "at " ++ (decimal at ++ codes "\n")
 
 -- the line of a history in which the steps of a transaction are together
 abbrev pub moved_line : Moving → List ℕ
-moved_line moved = (if moved.one_moment then codes "moved one " else codes "moved many ") ++ (list_text moved.numbers ++ codes "\n")
+moved_line moved =
+    (if moved.one_moment then codes "moved one " else codes "moved many ")
+    ++ (list_text moved.numbers ++ codes "\n")
 
 -- what a command responds once it is done
 pub data Responded : Type 0 where
@@ -64,8 +67,10 @@ commit_response (Some moved) = moves moved
 abbrev pub command_response : Start → List Accepted → ℕ → Command → Responded
 command_response start history zero Back = no_start
 command_response start history (suc at) Back = at_position
-command_response start history at Forward = if nat_lt at (length history) then at_position else no_end
-command_response start history at (Goto to) = if nat_le to (length history) then at_position else no_place
+command_response start history at Forward =
+    if nat_lt at (length history) then at_position else no_end
+command_response start history at (Goto to) =
+    if nat_le to (length history) then at_position else no_place
 command_response start history at State = the_state
 command_response start history at (Moved number) = commit_response (moved_at start history number)
 
@@ -94,14 +99,19 @@ Writing = Start → List Accepted → ℕ → Command → List ℕ
 
 -- as text
 abbrev pub command_answer : Writing
-command_answer start history at command = response_text start history (position_after history at command) (command_response start history at command)
+command_answer start history at command =
+    response_text start history (position_after history at command)
+    (command_response start history at command)
 
 -- what some commands answer in turn, from a position on
 abbrev pub answers_at : Writing → Start → List Accepted → ℕ → List Command → List ℕ
 answers_at written start history at [] = []
-answers_at written start history at (command ∷ commands) = written start history at command ++ answers_at written start history (position_after history at command) commands
+answers_at written start history at (command ∷ commands) =
+    written start history at command
+    ++ answers_at written start history (position_after history at command) commands
 
 -- what the commands of a text answer, of which the first is at the end of the schedule's history
 abbrev pub walk_answers : Writing → Header → List Step → List Command → List ℕ
 walk_answers written header steps commands =
-    let history = history_of (start_state header) [] steps in answers_at written (start_state header) history (length history) commands
+    let history = history_of (start_state header) [] steps in
+    answers_at written (start_state header) history (length history) commands

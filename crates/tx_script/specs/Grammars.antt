@@ -10,7 +10,8 @@ use Rattle.tx_lines.specs.declared.read.command.Command.{Command}
 use Rattle.tx_lines.specs.declared.read.header.Header.{Header}
 use Rattle.tx_translate.specs.Meant.{meant_of, IsOwnFault}
 
--- what texts of a kind spell, and how; where a text that is none is at fault; and what answers a text
+-- what texts of a kind spell, and how; where a text that is none is at fault; and what answers a
+-- text
 pub record Grammar (A : Type 0) : Type 1 where
   pub IsGood : A → Type 0
   pub text : A → List ℕ
@@ -37,5 +38,9 @@ walks = record {
 
 -- the answer to what a text spells, or means by another text, or the text's fault
 abbrev pub AnswersText : {A B : Type 0} → Grammar A → List ℕ → Result (String B) Fault → Type 0
-AnswersText {A} G text (Ok answer) = (spelled : A) × G.IsGood spelled × (meant_of text ≡ G.text spelled) × (string_bytes answer ≡ G.answer spelled)
+AnswersText {A} G text (Ok answer) =
+    (spelled : A)
+    × G.IsGood spelled
+    × (meant_of text ≡ G.text spelled)
+    × (string_bytes answer ≡ G.answer spelled)
 AnswersText G text (Err fault) = FaultsBy (IsOwnFault G.IsFault text) fault

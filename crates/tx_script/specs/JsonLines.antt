@@ -1,4 +1,5 @@
--- The lines of JSON that answer a schedule, or commands on it: functions of the history of the schedule.
+-- The lines of JSON that answer a schedule, or commands on it: functions of the history of the
+-- schedule.
 use Rattle.std.specs.Prelude.{ℕ, List, [], ◌∷◌, ◌++◌, codes, length}
 use Rattle.json.specs.Print.{print}
 use Rattle.json.specs.Token.{Token}
@@ -30,7 +31,8 @@ unfoldable pub text_of : List (List Token) → List ℕ
 text_of [] = []
 text_of (line ∷ lines) = line_of line ++ text_of lines
 
--- the answer to each step, on the history before it; where it is accepted its number is that of the steps accepted so far
+-- the answer to each step, on the history before it; where it is accepted its number is that of the
+-- steps accepted so far
 unfoldable pub step_lines : State → List Accepted → List Step → List (List Token)
 step_lines start earlier [] = []
 step_lines start earlier (step ∷ steps) =
@@ -40,7 +42,9 @@ step_lines start earlier (step ∷ steps) =
 
 -- whether a transaction may count as one moment, and the entries with its steps together
 abbrev pub moved_members : Moving → List Token
-moved_members moved = flag_member (codes "one_moment") moved.one_moment ++ list_member (codes "entries") (each_tokens count_item moved.numbers)
+moved_members moved =
+    flag_member (codes "one_moment") moved.one_moment
+    ++ list_member (codes "entries") (each_tokens count_item moved.numbers)
 
 -- what JSON has of a response after the lines of its text
 abbrev pub response_members : Responded → List Token
@@ -48,14 +52,18 @@ response_members (moves moved) = moved_members moved
 response_members no_commit = null_member (codes "entries")
 response_members response = []
 
--- a response, at the position to which the command led: that and the state there; or else that, the lines of its text, and those members
+-- a response, at the position to which the command led: that and the state there; or else that, the
+-- lines of its text, and those members
 abbrev pub response_line : State → List Accepted → ℕ → Responded → List Token
 response_line start history at the_state = state_answer at (view_at start history at)
-response_line start history at response = lines_with at (response_text start history at response) (response_members response)
+response_line start history at response =
+    lines_with at (response_text start history at response) (response_members response)
 
 -- the answer to a command at a position
 abbrev pub command_line : State → List Accepted → ℕ → Command → List Token
-command_line start history at command = response_line start history (position_after history at command) (command_response start history at command)
+command_line start history at command =
+    response_line start history (position_after history at command)
+    (command_response start history at command)
 
 -- that line
 abbrev pub json_answer : Writing

@@ -1,4 +1,5 @@
--- The lines of JSON that report a run: one for each entry of its journal, and one for the state at the position.
+-- The lines of JSON that report a run: one for each entry of its journal, and one for the state at
+-- the position.
 use Rattle.std.specs.Prelude.{ℕ, ◌+◌, List, [], ◌∷◌, ◌++◌}
 use Rattle.json.specs.Token.{Token}
 use Rattle.tx_journal.specs.Entries.{history_of}
@@ -20,4 +21,7 @@ entry_lines number (entry ∷ entries) = entry_line number entry ∷ entry_lines
 
 -- all entries, and then the state, as a command asks for it
 abbrev pub run_lines : SessionState → List (List Token)
-run_lines k = entry_lines 1 k.entries ++ command_line (start_of k) (history_of k.entries) (position_of k) commands.State ∷ []
+run_lines k =
+    entry_lines 1 k.entries
+    ++ command_line (start_of k) (history_of k.entries) (position_of k) commands.State
+    ∷ []

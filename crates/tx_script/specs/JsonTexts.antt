@@ -29,7 +29,8 @@ abbrev pub answer_of : Header → List Step → Option (List Command) → List �
 answer_of header steps None = text_of (schedule_lines header steps)
 answer_of header steps (Some commands) = walk_answers json_answer header steps commands
 
--- a text with the line before commands is at fault as one with commands, and any other as a schedule
+-- a text with the line before commands is at fault as one with commands, and any other as a
+-- schedule
 abbrev pub IsFaultAs : Kind → List ℕ → Fault → Type 0
 IsFaultAs kinds.Walk text fault = IsWalkFault text fault
 IsFaultAs kinds.Schedule text fault = IsFaultOf text fault

@@ -32,7 +32,8 @@ lines_text number (reply ∷ replies) = line_text number reply ++ lines_text (nu
 abbrev pub last_view : Header → List Step → View
 last_view header steps = view (start_state header) (history_of (start_state header) [] steps)
 
--- the whole report: the answer to each step in turn, each on the history before it, and the state of the history that all leave
+-- the whole report: the answer to each step in turn, each on the history before it, and the state
+-- of the history that all leave
 abbrev pub report_text : Header → List Step → List ℕ
 report_text header steps =
     lines_text 1 (answers_of (start_state header) [] steps) ++ state_text (last_view header steps)

@@ -79,7 +79,8 @@ FitsAsk version (asks.Why step) = FitsStep step × IsOf (grammar_of version) ste
 FitsAsk version (asks.OwnsOf starter) = starter < 2 ^ 16
 FitsAsk version (asks.HoldsPipe number) = number.0 < 2 ^ 8
 FitsAsk version (asks.HoldsDesc number) = number.0 < 2 ^ 8
-FitsAsk version (asks.Name process name) = (version ≡ Three) × ((1 ≤ process.0) × (process.0 ≤ 256)) × (is_name name.now ≡ true)
+FitsAsk version (asks.Name process name) =
+    (version ≡ Three) × ((1 ≤ process.0) × (process.0 ≤ 256)) × (is_name name.now ≡ true)
 FitsAsk version ask = Unit {0}
 
 -- a line that is spelled so asks for nothing
@@ -119,7 +120,8 @@ lets_go asks.Cut = true
 lets_go ask = false
 
 -- at the end a step is made: its reply is reported, and it is recorded where it was accepted
-pub record MakesStep (form : Form) (start : State) (p : Place) (step : Step) (text : List ℕ) (q : Place) : Type 0 where
+pub record MakesStep (form : Form) (start : State) (p : Place) (step : Step) (text : List ℕ)
+    (q : Place) : Type 0 where
   pub at_end : p.at ≡ length p.history
   pub report : SaysReply form (length q.history) (answer (view start p.history) step) text
   pub recorded : q.history ≡ history_with p.history step (answer (view start p.history) step)
@@ -140,23 +142,28 @@ IsWalked responded (answers.Walked response) = responded_in response ≡ respond
 IsWalked responded other = ⊥
 
 -- a command of the debugger responds as in a text for it, and leads to the same position
-pub record Walks (start : State) (p : Place) (command : Command) (found : Answer) (q : Place) : Type 0 where
+pub record Walks (start : State) (p : Place) (command : Command) (found : Answer) (q : Place)
+    : Type 0 where
   pub report : IsWalked (command_response start p.history p.at command) found
   pub at : q.at ≡ position_after p.history p.at command
 
 -- a step would get that reply, and the state after it would differ by those lines
 abbrev pub IsTrial : Reply → List ℕ → Answer → Type 0
-IsTrial reply lines (answers.Trial replied differences) = (replied ≡ reply) × (string_bytes differences ≡ lines)
+IsTrial reply lines (answers.Trial replied differences) =
+    (replied ≡ reply) × (string_bytes differences ≡ lines)
 IsTrial reply lines other = ⊥
 
 -- the state would differ by those lines without the transaction of s
 abbrev pub IsWithout : ℕ → Option (List ℕ) → Answer → Type 0
-IsWithout s lines (answers.Without starter differences) = (starter ≡ s) × (option_map string_bytes differences ≡ lines)
+IsWithout s lines (answers.Without starter differences) =
+    (starter ≡ s) × (option_map string_bytes differences ≡ lines)
 IsWithout s lines other = ⊥
 
--- the state after so many steps differs by those lines from that after so many others, where both are there
+-- the state after so many steps differs by those lines from that after so many others, where both
+-- are there
 abbrev pub IsDiff : ℕ → ℕ → Option (List ℕ) → Answer → Type 0
-IsDiff from to lines (answers.Diff one other differences) = (one ≡ from) × (other ≡ to) × (option_map string_bytes differences ≡ lines)
+IsDiff from to lines (answers.Diff one other differences) =
+    (one ≡ from) × (other ≡ to) × (option_map string_bytes differences ≡ lines)
 IsDiff from to lines other = ⊥
 
 -- who has a pipe open, or a description, where it is there
@@ -192,20 +199,35 @@ module _ (start : State) (h : List Accepted) (own : List (Option Step)) where
   IsAnswer p refused (asks.Walk command) found q = Walks start p command found q
   IsAnswer p refused asks.GotoEnd found q = Walks start p (commands.Goto (length p.history)) found q
   IsAnswer p refused asks.Steps found q = (found ≡ answers.Steps 1 (length p.history)) × (q ≡ p)
-  IsAnswer p refused (asks.StepsFrom first) found q = (found ≡ answers.Steps first (length p.history)) × (q ≡ p)
-  IsAnswer p refused (asks.StepsBetween first last) found q = (found ≡ answers.Steps first last) × (q ≡ p)
+  IsAnswer p refused (asks.StepsFrom first) found q =
+      (found ≡ answers.Steps first (length p.history)) × (q ≡ p)
+  IsAnswer p refused (asks.StepsBetween first last) found q =
+      (found ≡ answers.Steps first last) × (q ≡ p)
   IsAnswer p refused asks.Text found q = (found ≡ answers.Schedule) × (q ≡ p)
-  IsAnswer p refused (asks.Try step) found q = IsTrial (answer (view start h) step) (views_differing (view start h) (view_with start h step)) found × (q ≡ p)
-  IsAnswer p refused (asks.When piece) found q = (change : Option Change) × (found ≡ answers.Change change) × FindsLast (shown_at start p.history piece) p change q
-  IsAnswer p refused (asks.Next piece) found q = (change : Option Change) × (found ≡ answers.Change change) × FindsNext (shown_at start p.history piece) p change q
-  IsAnswer p refused (asks.Diff from to) found q = IsDiff from to (differing_between start p.history from to) found × (q ≡ p)
-  IsAnswer p refused (asks.Without starter) found q = IsWithout starter (differing_without start h starter) found × (q ≡ p)
+  IsAnswer p refused (asks.Try step) found q =
+      IsTrial (answer (view start h) step) (views_differing (view start h) (view_with start h step))
+      found
+      × (q ≡ p)
+  IsAnswer p refused (asks.When piece) found q =
+      (change : Option Change)
+      × (found ≡ answers.Change change)
+      × FindsLast (shown_at start p.history piece) p change q
+  IsAnswer p refused (asks.Next piece) found q =
+      (change : Option Change)
+      × (found ≡ answers.Change change)
+      × FindsNext (shown_at start p.history piece) p change q
+  IsAnswer p refused (asks.Diff from to) found q =
+      IsDiff from to (differing_between start p.history from to) found × (q ≡ p)
+  IsAnswer p refused (asks.Without starter) found q =
+      IsWithout starter (differing_without start h starter) found × (q ≡ p)
   IsAnswer p refused (asks.Why step) found q = (found ≡ why step) × (q ≡ p)
   IsAnswer p refused asks.WhyRefused found q = (found ≡ last_why refused) × (q ≡ p)
   IsAnswer p refused asks.Owns found q = (found ≡ answers.Owners) × (q ≡ p)
   IsAnswer p refused (asks.OwnsOf starter) found q = (found ≡ answers.OwnersOf starter) × (q ≡ p)
-  IsAnswer p refused (asks.HoldsPipe number) found q = IsPipeHeld (held_pipe (present (view start h)) number.0) found × (q ≡ p)
-  IsAnswer p refused (asks.HoldsDesc number) found q = IsDescHeld (held_desc (present (view start h)) number.0) found × (q ≡ p)
+  IsAnswer p refused (asks.HoldsPipe number) found q =
+      IsPipeHeld (held_pipe (present (view start h)) number.0) found × (q ≡ p)
+  IsAnswer p refused (asks.HoldsDesc number) found q =
+      IsDescHeld (held_desc (present (view start h)) number.0) found × (q ≡ p)
   IsAnswer p refused (asks.Name process name) found q = (found ≡ answers.Position) × (q ≡ p)
   IsAnswer p refused asks.Cut found q = (found ≡ answers.Position) × (q ≡ p)
   IsAnswer p refused asks.Help found q = IsPage (λ page. IsTrue (is_page page)) found × (q ≡ p)
@@ -215,8 +237,8 @@ module _ (start : State) (h : List Accepted) (own : List (Option Step)) where
 abbrev pub left_by : Bool → Place → Place
 left_by goes p = if goes then record { history = first_steps p.at p.history; at = p.at } else p
 
--- what is kept beside the steps: which of them was refused last, of each process its last step where that was refused, and the names that were given to
--- processes
+-- what is kept beside the steps: which of them was refused last, of each process its last step
+-- where that was refused, and the names that were given to processes
 pub record Kept : Type 0 where
   pub refused : Option Step
   pub own : List (Option Step)
@@ -224,12 +246,16 @@ pub record Kept : Type 0 where
 
 -- what is asked for is done, and its answer is printed where it led, with the names of processes
 -- there, before steps are dropped and names are kept
-pub record AnswersAskIn (form : Form) (o : Origin) (p : Place) (before : Kept) (ask : Ask) (text : List ℕ) (q : Place) (later : Kept) : Type 0 where
+pub record AnswersAskIn (form : Form) (o : Origin) (p : Place) (before : Kept) (ask : Ask)
+    (text : List ℕ) (q : Place) (later : Kept) : Type 0 where
   pub found : Answer
   pub there : Place
-  pub is : IsAnswer (start_in o) (first_steps p.at p.history) before.own p before.refused ask found there
+  pub is :
+      IsAnswer (start_in o) (first_steps p.at p.history) before.own p before.refused ask found there
   pub kept : there.history ≡ p.history
-  pub says : SaysAnswer form o (names_at o.count there before.names) (first_steps there.at there.history) there found text
+  pub says :
+      SaysAnswer form o (names_at o.count there before.names) (first_steps there.at there.history)
+      there found text
   pub after : q ≡ left_by (lets_go ask) there
   pub names : later ≡ record before { names = names_by ask there.at before.names }
 
@@ -246,36 +272,47 @@ pub record IsAskLine (o : Origin) (words : List ℕ) (ask : Ask) : Type 0 where
   pub spelled : words ≡ ask_text ask
 
 -- it is neither: what is wrong with the line is reported, and nothing changes
-pub record AnswersNeither (form : Form) (o : Origin) (p : Place) (line words text : List ℕ) (q : Place) : Type 0 where
+pub record AnswersNeither (form : Form) (o : Origin) (p : Place) (line words text : List ℕ)
+    (q : Place) : Type 0 where
   pub no_step : IsNoStep (grammar_of o.version) words
   pub no_ask : IsNoAsk o.version words
   pub reports : ReportsIn form line text
   pub stays : q ≡ p
 
--- the last steps of all processes, once it is known which one process has, where there is one of that number
+-- the last steps of all processes, once it is known which one process has, where there is one of
+-- that number
 abbrev pub own_with : Option ℕ → Option Step → List (Option Step) → List (Option Step)
 own_with None last own = own
 own_with (Some q) last own = if is_between (length own) q then with_slot own q last else own
 
--- what is kept once a step was refused, and once one was accepted: a process that it forks has made no step
+-- what is kept once a step was refused, and once one was accepted: a process that it forks has made
+-- no step
 abbrev pub kept_refused : Step → Kept → Kept
-kept_refused step before = record before { refused = Some step; own = own_with (maker step) (Some step) before.own }
+kept_refused step before =
+    record before { refused = Some step; own = own_with (maker step) (Some step) before.own }
 
 abbrev pub kept_accepted : Step → Kept → Kept
-kept_accepted step before = record before { own = own_with (forked step) None (own_with (maker step) None before.own) }
+kept_accepted step before =
+    record before { own = own_with (forked step) None (own_with (maker step) None before.own) }
 
 -- what is kept after a step that had to be made, and was refused where it led nowhere; any other
 -- changes nothing
 abbrev pub kept_by : Place → Step → Place → Kept → Kept
 kept_by p step q before =
     if nat_eq p.at (length p.history)
-    then (if nat_eq (length q.history) (length p.history) then kept_refused step before else kept_accepted step before) else before
+    then (if nat_eq (length q.history) (length p.history)
+    then kept_refused step before
+    else kept_accepted step before) else before
 
--- a line that means those words is a step, or else asks for something, or else is neither, and is answered as such. What was kept before it leads to
--- what is kept after it
-abbrev pub AnswersWords : Form → Origin → Place → Kept → List ℕ → List ℕ → List ℕ → Place → Kept → Type 0
+-- a line that means those words is a step, or else asks for something, or else is neither, and is
+-- answered as such. What was kept before it leads to what is kept after it
+abbrev pub AnswersWords : Form → Origin → Place → Kept → List ℕ → List ℕ → List ℕ → Place → Kept
+    → Type 0
 AnswersWords form o p before line words text q after =
-    ((step : Step) × IsStepLine o words step × AnswersStep form (start_in o) p step text q × (after ≡ kept_by p step q before))
+    ((step : Step)
+    × IsStepLine o words step
+    × AnswersStep form (start_in o) p step text q
+    × (after ≡ kept_by p step q before))
     ⊎ (((ask : Ask) × IsAskLine o words ask × AnswersAskIn form o p before ask text q after)
     ⊎ (AnswersNeither form o p line words text q × (after ≡ before)))
 
@@ -290,7 +327,9 @@ position_asked p ask = p.at
 -- the position may stop on the way to what is asked for: it is between the old one and that one,
 -- or, where two are compared, among the old one and both
 abbrev pub IsOnWay : Place → Ask → ℕ → Type 0
-IsOnWay p (asks.Diff from to) at = IsAmong p.at (compared_at p.history from to p.at from) (compared_at p.history from to p.at to) at
+IsOnWay p (asks.Diff from to) at =
+    IsAmong p.at (compared_at p.history from to p.at from) (compared_at p.history from to p.at to)
+    at
 IsOnWay p ask at = IsBetween p.at at (position_asked p ask)
 
 -- no step came or went, and the position is on that way

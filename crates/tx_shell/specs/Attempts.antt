@@ -26,10 +26,12 @@ abbrev pub awaited_child : Step → Reply → Option ℕ
 awaited_child (steps.Call p (calls.Waitpid child nohang)) (No Wait) = pid_of 256 child
 awaited_child step reply = None
 
--- the last step of a process where it was refused, of those of all processes, and what it would be answered now
+-- the last step of a process where it was refused, of those of all processes, and what it would be
+-- answered now
 abbrev pub attempt_of : View → List (Option Step) → Option ℕ → Option Attempt
 attempt_of V own None = None
-attempt_of V own (Some q) = option_map (λ (step : Step). record { step = step; reply = answer V step }) (slot_at own q)
+attempt_of V own (Some q) =
+    option_map (λ (step : Step). record { step = step; reply = answer V step }) (slot_at own q)
 
 -- the answer to a step that would not be refused
 abbrev pub answered_text : Reply → List ℕ
@@ -44,10 +46,15 @@ module _ (names : Names) (S : State) (h : List Accepted) where
   -- it, and those
   abbrev pub attempt_text : Option Attempt → List ℕ
   attempt_text None = []
-  attempt_text (Some attempt) = codes "its last step was refused: " ++ (step_made_text names attempt.step ++ outcome_text attempt.step attempt.reply)
+  attempt_text (Some attempt) =
+      codes "its last step was refused: "
+      ++ (step_made_text names attempt.step ++ outcome_text attempt.step attempt.reply)
 
 -- what JSON has of it
 abbrev pub child_member : State → List Accepted → Option Attempt → List Token
 child_member S h None = []
 child_member S h (Some attempt) =
-    object_key (codes "child") ++ (begin_object ++ (word_member (codes "step") (step_text attempt.step) ++ (why_members S h attempt.step attempt.reply ++ end_object)))
+    object_key (codes "child")
+    ++ (begin_object
+    ++ (word_member (codes "step") (step_text attempt.step)
+    ++ (why_members S h attempt.step attempt.reply ++ end_object)))

@@ -27,12 +27,25 @@ pub record Blocked : Type 0 where
 
 -- what the code has of it
 abbrev pub blocked_of : Blocker → Blocked
-blocked_of blocker = record { kind = blocker.kind; number = blocker.number; owner = blocker.owner.0; since = option_map numbered blocker.since }
+blocked_of blocker =
+    record {
+      kind = blocker.kind;
+      number = blocker.number;
+      owner = blocker.owner.0;
+      since = option_map numbered blocker.since;
+    }
 
 -- the object of a kind and a number, where it has another owner
 abbrev pub owned_by : State → List Accepted → Kind → ℕ → Option ℕ → List Blocked
 owned_by S h kind number None = []
-owned_by S h kind number (Some s) = record { kind = kind; number = number; owner = s; since = first_touch S h s (object_in kind number) } ∷ []
+owned_by S h kind number (Some s) =
+    record {
+      kind = kind;
+      number = number;
+      owner = s;
+      since = first_touch S h s (object_in kind number);
+    }
+    ∷ []
 
 module _ (S : State) (h : List Accepted) (step : Step) where
   -- whether the step names the object of a kind and a number
@@ -44,7 +57,11 @@ module _ (S : State) (h : List Accepted) (step : Step) where
 
   -- it, where the step names it and another's transaction has reserved it
   abbrev pub blocked_at : Kind → ℕ → List Blocked
-  blocked_at kind number = if names_one kind number then owned_by S h kind number (other_owner (view S h) (process_of step) (object_in kind number)) else []
+  blocked_at kind number =
+      if names_one kind number
+      then owned_by S h kind number
+      (other_owner (view S h) (process_of step) (object_in kind number))
+      else []
 
   abbrev pub blocked_in : Kind → List Blocked
   blocked_in kind = each_below (blocked_at kind) (limit_of kind)

@@ -54,7 +54,8 @@ pub record IsChange (shown : ℕ → List ℕ) (number : ℕ) (change : Change) 
 
 -- the position goes back to the one after the last step that changed them, or to the start where
 -- none did
-pub record FindsLast (shown : ℕ → List ℕ) (p : Place) (found : Option Change) (q : Place) : Type 0 where
+pub record FindsLast (shown : ℕ → List ℕ) (p : Place) (found : Option Change) (q : Place)
+    : Type 0 where
   pub history : q.history ≡ p.history
   pub back : q.at ≤ p.at
   pub same : IsSame shown q.at p.at
@@ -72,17 +73,26 @@ pub record StaysSame (shown : ℕ → List ℕ) (p q : Place) : Type 0 where
   pub at : q.at ≡ length p.history
   pub same : IsSame shown p.at q.at
 
-pub record FindsNext (shown : ℕ → List ℕ) (p : Place) (found : Option Change) (q : Place) : Type 0 where
+pub record FindsNext (shown : ℕ → List ℕ) (p : Place) (found : Option Change) (q : Place)
+    : Type 0 where
   pub history : q.history ≡ p.history
   pub outcome : MatchOption found (StaysSame shown p q) (λ change. ChangesNext shown p change q)
 
 -- the step of that number is reported, and by which lines they differ
-pub record ReportsStep (names : Names) (history : List Accepted) (number : ℕ) (before after text : List ℕ) : Type 0 where
+pub record ReportsStep (names : Names) (history : List Accepted) (number : ℕ)
+    (before after text : List ℕ) : Type 0 where
   pub entry : Accepted
   pub made : slice_get (reverse history) (number - 1) ≡ Some entry
-  pub report : text ≡ codes "at " ++ (decimal number ++ (codes ": " ++ (step_made_text names entry.step ++ 10 ∷ differing before after)))
+  pub report :
+      text
+      ≡ codes "at "
+      ++ (decimal number
+      ++ (codes ": " ++ (step_made_text names entry.step ++ 10 ∷ differing before after)))
 
 -- what was found is reported: the step directly before the position, or that there is none
 abbrev pub ReportsFound : Names → List Accepted → ℕ → Option Change → List ℕ → Type 0
 ReportsFound names history at found text =
-    MatchOption found (text ≡ codes "at " ++ (decimal at ++ codes ": no change\n")) (λ change. ReportsStep names history at (string_bytes change.before) (string_bytes change.after) text)
+    MatchOption found (text ≡ codes "at " ++ (decimal at ++ codes ": no change\n"))
+    (λ change.
+    ReportsStep names history at (string_bytes change.before) (string_bytes change.after)
+    text)

@@ -9,9 +9,13 @@ use Rattle.tx_shell.specs.Differences.{views_differing}
 abbrev pub are_there : List Accepted → ℕ → ℕ → Bool
 are_there history from to = nat_le from (length history) && nat_le to (length history)
 
--- how the state after so many of its steps differs from that after so many others, where it has them
+-- how the state after so many of its steps differs from that after so many others, where it has
+-- them
 abbrev pub differing_between : State → List Accepted → ℕ → ℕ → Option (List ℕ)
-differing_between start history from to = if are_there history from to then Some (views_differing (view_at start history from) (view_at start history to)) else None
+differing_between start history from to =
+    if are_there history from to
+    then Some (views_differing (view_at start history from) (view_at start history to))
+    else None
 
 -- one of two positions that are compared; the old one where they are not both there
 abbrev pub compared_at : List Accepted → ℕ → ℕ → ℕ → ℕ → ℕ

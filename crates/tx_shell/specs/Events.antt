@@ -14,7 +14,8 @@ pub data Event : Type 0 where
   Text : List ℕ → Event
   Failure : Event
 
--- all that came and went at a terminal, the bytes that are still to come, and those that were shown; each where it is known
+-- all that came and went at a terminal, the bytes that are still to come, and those that were
+-- shown; each where it is known
 pub record Traffic : Type 0 where
   pub log : Option (List Event)
   pub coming : Option (List ℕ)
@@ -29,7 +30,8 @@ Logs (Some before) events log = log ≡ Some (before ++ events)
 -- there are no more; after a failure nothing is known
 abbrev pub ComeFrom : List ℕ → List Event → Option (List ℕ) → Type 0
 ComeFrom bytes [] coming = coming ≡ Some bytes
-ComeFrom bytes (Line line ∷ events) coming = (bytes ≢ []) × (line ≡ front_line bytes) × ComeFrom (behind bytes) events coming
+ComeFrom bytes (Line line ∷ events) coming =
+    (bytes ≢ []) × (line ≡ front_line bytes) × ComeFrom (behind bytes) events coming
 ComeFrom bytes (End ∷ events) coming = (bytes ≡ []) × ComeFrom bytes events coming
 ComeFrom bytes (Text text ∷ events) coming = ComeFrom bytes events coming
 ComeFrom bytes (Failure ∷ events) coming = Unit {0}
@@ -62,12 +64,14 @@ unprompted prompts written = if prompts then None else written
 
 -- the traffic between a reader that has these bytes left and a writer that holds those
 abbrev pub traffic_between : Option (List ℕ) → Option (List ℕ) → Bool → Traffic
-traffic_between left written prompts = record { log = None; coming = left; shown = unprompted prompts written }
+traffic_between left written prompts =
+    record { log = None; coming = left; shown = unprompted prompts written }
 
 -- each line has its answer directly after it, and leads from one standing to another
 unfoldable pub Exchanges : Standing → List Event → Standing → Type 0
 Exchanges s [] t = t ≡ s
-Exchanges s (Line line ∷ Text text ∷ events) t = (r : Standing) × Answers s line text r × Exchanges r events t
+Exchanges s (Line line ∷ Text text ∷ events) t =
+    (r : Standing) × Answers s line text r × Exchanges r events t
 Exchanges s events t = ⊥
 
 -- a line came, and a front of its answer went before the terminal failed
@@ -91,14 +95,17 @@ lines_among (Failure ∷ events) = lines_among events
 -- asks for that; with a failure while a line is awaited, or while an answer is shown; with a line
 -- for which memory was refused; or after the most lines
 abbrev pub EndsBy : Standing → ℕ → List Event → Standing → Result (Unit {0}) ServeFault → Type 0
-EndsBy s lines events t (Ok _) = (t ≡ s) × ((events ≡ End ∷ []) ⊎ ((line : List ℕ) × (events ≡ Line line ∷ []) × IsQuit s line))
+EndsBy s lines events t (Ok _) =
+    (t ≡ s) × ((events ≡ End ∷ []) ⊎ ((line : List ℕ) × (events ≡ Line line ∷ []) × IsQuit s line))
 EndsBy s lines events t (Err faults.Reader) = (t ≡ s) × (events ≡ Failure ∷ [])
 EndsBy s lines events t (Err faults.Writer) = IsCutOff s events t
-EndsBy s lines events t (Err faults.NoMemory) = (line : List ℕ) × (events ≡ Line line ∷ []) × Stops s line t
+EndsBy s lines events t (Err faults.NoMemory) =
+    (line : List ℕ) × (events ≡ Line line ∷ []) × Stops s line t
 EndsBy s lines events t (Err faults.TooMany) = (t ≡ s) × (events ≡ []) × (lines ≡ LINES)
 
 -- a whole session: lines and their answers, and its end
-pub record IsServed (s t : Standing) (before after : Traffic) (result : Result (Unit {0}) ServeFault) : Type 0 where
+pub record IsServed (s t : Standing) (before after : Traffic)
+    (result : Result (Unit {0}) ServeFault) : Type 0 where
   pub answered : List Event
   pub last : List Event
   pub at : Standing

@@ -34,7 +34,9 @@ nobody_line side = codes "nobody has its " ++ (side_word side ++ codes " side op
 module _ (names : Names) where
   -- a descriptor of a process
   abbrev pub holder_text : Holder → List ℕ
-  holder_text holder = decimal holder.descriptor ++ (codes " of process " ++ (decimal holder.process ++ after_number (names holder.process)))
+  holder_text holder =
+      decimal holder.descriptor
+      ++ (codes " of process " ++ (decimal holder.process ++ after_number (names holder.process)))
 
   -- and of another
   abbrev pub next_text : Holder → List ℕ
@@ -44,4 +46,7 @@ module _ (names : Names) where
   abbrev pub holders_line : Side → List Holder → List ℕ
   holders_line side [] = nobody_line side
   holders_line side (first ∷ others) =
-      codes "its " ++ (side_word side ++ (codes " side is open: descriptor " ++ (holder_text first ++ (each_text next_text others ++ 10 ∷ []))))
+      codes "its "
+      ++ (side_word side
+      ++ (codes " side is open: descriptor "
+      ++ (holder_text first ++ (each_text next_text others ++ 10 ∷ []))))

@@ -21,7 +21,10 @@ mark_at at number = if nat_eq at number then position_text at else []
 abbrev pub listed_between : ℕ → ℕ → ℕ → ℕ → Accepted → List ℕ
 listed_between at first last number e =
     if nat_le first number && nat_le number last
-    then decimal number ++ (codes " w1 " ++ (step_text e.step ++ (codes " : " ++ (named_reply_text e.reply ++ 10 ∷ mark_at at number)))) else []
+    then decimal number
+    ++ (codes " w1 "
+    ++ (step_text e.step
+    ++ (codes " : " ++ (named_reply_text e.reply ++ 10 ∷ mark_at at number)))) else []
 
 -- the lines of some things by their numbers, from that one on
 abbrev pub by_number : {A B : Type 0} → (ℕ → A → List B) → ℕ → List A → List B
@@ -39,7 +42,9 @@ or_no_steps count (byte ∷ bytes) = byte ∷ bytes
 
 -- the steps of those numbers, and the position where it is among them, or that there are none
 abbrev pub steps_listed : Place → ℕ → ℕ → List ℕ
-steps_listed p first last = or_no_steps (length p.history) (mark_before p.at first ++ by_number (listed_between p.at first last) 1 (reverse p.history))
+steps_listed p first last =
+    or_no_steps (length p.history)
+    (mark_before p.at first ++ by_number (listed_between p.at first last) 1 (reverse p.history))
 
 -- the steps of some entries
 abbrev pub steps_of : List Entry → List Step

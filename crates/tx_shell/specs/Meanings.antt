@@ -48,15 +48,19 @@ or_naming None naming = option_map naming_words naming
 abbrev pub own_line : List ℕ → Option (List ℕ)
 own_line line = or_naming (plain_line (Within Schedule) line) (naming_in line)
 
--- what a line of version 3 means among the steps of a text; where its first word asks about a step, that is a line of its own. One that gives a
--- name to a process means itself, and so does one of too many bytes
+-- what a line of version 3 means among the steps of a text; where its first word asks about a step,
+-- that is a line of its own. One that gives a name to a process means itself, and so does one of
+-- too many bytes
 abbrev pub third_line : List ℕ → Option (List ℕ)
 third_line line =
     if not (nat_lt 512 (length line)) && asks_of_step (first_word line)
-    then Some (with_step (first_word line) (plain_line (Within Schedule) (without_return (after_word line))))
+    then Some
+    (with_step (first_word line)
+    (plain_line (Within Schedule) (without_return (after_word line))))
     else own_line (without_return line)
 
--- what a line of a version spells, before other words for the same are looked at. A byte 10 would end it
+-- what a line of a version spells, before other words for the same are looked at. A byte 10 would
+-- end it
 abbrev pub spelled_line : TextVersion → List ℕ → Option (List ℕ)
 spelled_line One line = Some (first_line line)
 spelled_line Two line = Some (first_line line)
@@ -64,9 +68,13 @@ spelled_line Three line = third_line (first_line line)
 
 -- `exit` is another word for quit, and `?` for help
 abbrev pub usual_words : List ℕ → List ℕ
-usual_words words = if bytes_eq words (codes "exit") then codes "quit" else if bytes_eq words (codes "?") then codes "help" else words
+usual_words words =
+    if bytes_eq words (codes "exit")
+    then codes "quit" else if bytes_eq words (codes "?") then codes "help"
+    else words
 
--- what a line means among the steps of a text: itself, and in version 3 a line of version 2, or nothing where it has no word
+-- what a line means among the steps of a text: itself, and in version 3 a line of version 2, or
+-- nothing where it has no word
 abbrev pub meant_line : TextVersion → List ℕ → Option (List ℕ)
 meant_line version line = option_map usual_words (spelled_line version line)
 

@@ -32,11 +32,13 @@ step_tokens number e = entry_answer number 1 (step_text e.step) e.reply
 
 -- it, where its number is between those two
 abbrev pub tokens_between : ℕ → ℕ → ℕ → Accepted → List Token
-tokens_between first last number e = if nat_le first number && nat_le number last then step_tokens number e else []
+tokens_between first last number e =
+    if nat_le first number && nat_le number last then step_tokens number e else []
 
 -- the steps of those numbers
 abbrev pub steps_member : Place → ℕ → ℕ → List Token
-steps_member p first last = list_member (codes "steps") (by_number (tokens_between first last) 1 (reverse p.history))
+steps_member p first last =
+    list_member (codes "steps") (by_number (tokens_between first last) 1 (reverse p.history))
 
 -- a number, where it is listed
 abbrev pub listed_item : (ℕ → Bool) → ℕ → List Token
@@ -45,13 +47,17 @@ listed_item listed number = if listed number then count_item number else []
 module _ (V : View) where
   -- the numbers of a kind that the transaction of s has reserved
   abbrev pub owned_member : ℕ → Kind → List Token
-  owned_member s kind = list_member (list_of kind) (upto (listed_item (owns_one V s kind)) (limit_of kind))
+  owned_member s kind =
+      list_member (list_of kind) (upto (listed_item (owns_one V s kind)) (limit_of kind))
 
   -- the transaction of s, where it is live, and what it has reserved
   abbrev pub owner_item : ℕ → List Token
   owner_item s =
       if is_live V.table s
-      then begin_object ++ (count_member (codes "starter") s ++ (owned_member s Processes ++ (owned_member s Descriptions ++ (owned_member s Pipes ++ end_object))))
+      then begin_object
+      ++ (count_member (codes "starter") s
+      ++ (owned_member s Processes
+      ++ (owned_member s Descriptions ++ (owned_member s Pipes ++ end_object))))
       else []
 
   -- all live transactions, by their rising starters, or that of one
@@ -69,16 +75,22 @@ since_members (Some first) = count_member (codes "since") first.number
 -- an object in the way of a step
 abbrev pub blocked_tokens : Blocked → List Token
 blocked_tokens b =
-    begin_object ++ (word_member (codes "object") (name_text b.kind b.number) ++ (count_member (codes "holder") b.owner ++ (since_members b.since ++ end_object)))
+    begin_object
+    ++ (word_member (codes "object") (name_text b.kind b.number)
+    ++ (count_member (codes "holder") b.owner ++ (since_members b.since ++ end_object)))
 
 -- all of them, where there are some
 abbrev pub blockers_members : List Blocked → List Token
 blockers_members [] = []
-blockers_members (first ∷ others) = list_member (codes "blockers") (each_tokens blocked_tokens (first ∷ others))
+blockers_members (first ∷ others) =
+    list_member (codes "blockers") (each_tokens blocked_tokens (first ∷ others))
 
 -- what a step would be answered after a history, what is in its way, and who could end its wait
 abbrev pub why_members : State → List Accepted → Step → Reply → List Token
-why_members S h step reply = reply_members reply ++ (blockers_members (blocked_by S h step reply) ++ holders_members (awaited_by (view S h) step reply))
+why_members S h step reply =
+    reply_members reply
+    ++ (blockers_members (blocked_by S h step reply)
+    ++ holders_members (awaited_by (view S h) step reply))
 
 -- the two positions that are compared, or that none are
 abbrev pub compared_members : ℕ → ℕ → List Token

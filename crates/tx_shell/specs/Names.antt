@@ -27,7 +27,8 @@ Names = ℕ → Option (List ℕ)
 
 -- a name that was given, as a text knows it
 abbrev pub given_as : Given → NameAt
-given_as given = record { position = given.position; process = given.process.0; name = string_bytes given.name }
+given_as given =
+    record { position = given.position; process = given.process.0; name = string_bytes given.name }
 
 -- the process that a step forks
 abbrev pub forked : Step → Option ℕ
@@ -43,29 +44,39 @@ is_it q (Some child) = nat_eq child q
 abbrev pub forks : List Accepted → ℕ → ℕ → ℕ
 forks history q n = count_by (λ (e : Accepted). is_it q (forked e.step)) (take n (reverse history))
 
--- which of the processes of number q there is after n steps, where so many processes were there at the start: one that was not is forked first
+-- which of the processes of number q there is after n steps, where so many processes were there at
+-- the start: one that was not is forked first
 abbrev pub process_there : ℕ → List Accepted → ℕ → ℕ → ℕ
-process_there count history q n = if nat_le q count then forks history q n else max (forks history q n) 1
+process_there count history q n =
+    if nat_le q count then forks history q n else max (forks history q n) 1
 
 -- a name was given to the process that has number q at a place
 abbrev pub is_of : ℕ → Place → ℕ → NameAt → Bool
-is_of count p q given = nat_eq given.process q && nat_eq (process_there count p.history q given.position) (process_there count p.history q p.at)
+is_of count p q given =
+    nat_eq given.process q
+    && nat_eq (process_there count p.history q given.position)
+    (process_there count p.history q p.at)
 
 -- of the names that were given to it the last one
 abbrev pub names_at : ℕ → Place → List NameAt → Names
-names_at count p given q = fold (λ (found : Option (List ℕ)) (one : NameAt). if is_of count p q one then Some one.name else found) None given
+names_at count p given q =
+    fold
+    (λ (found : Option (List ℕ)) (one : NameAt).
+    if is_of count p q one then Some one.name else found) None given
 
 -- the same, as a session knows it
 abbrev pub is_given_to : SessionState → ℕ → NameAt → Bool
 is_given_to k q given = is_of k.count (place_of k) q given
 
 abbrev pub named : NamesThere → Names
-named names = names_at names.session.now.count (place_of names.session.now) (map given_as names.given.now)
+named names =
+    names_at names.session.now.count (place_of names.session.now) (map given_as names.given.now)
 
 -- the names that were given, once something was asked for at a position: a name is kept after the
 -- others, and a cut drops those that were given after the position
 abbrev pub names_by : Ask → ℕ → List NameAt → List NameAt
-names_by (asks.Name process name) at given = given ++ (record { position = at; process = process.0; name = name.now }) ∷ []
+names_by (asks.Name process name) at given =
+    given ++ (record { position = at; process = process.0; name = name.now }) ∷ []
 names_by asks.Cut at given = filter (λ (one : NameAt). nat_le one.position at) given
 names_by ask at given = given
 
@@ -87,7 +98,9 @@ maker (steps.KernelAbort s) = None
 -- a process and its name, where it has one, as JSON has them
 abbrev pub named_item : ℕ → Option (List ℕ) → List Token
 named_item q None = []
-named_item q (Some name) = begin_object ++ (count_member (codes "process") q ++ (word_member (codes "name") name ++ end_object))
+named_item q (Some name) =
+    begin_object
+    ++ (count_member (codes "process") q ++ (word_member (codes "name") name ++ end_object))
 
 module _ (names : Names) where
   -- the name of the process of a number that may be none
@@ -120,4 +133,7 @@ module _ (names : Names) where
 
   -- all that have one, by rising numbers, as a member of JSON where there are some
   abbrev pub names_member : List Token
-  names_member = if has_name (limit_of Processes) then list_member (codes "names") (upto (λ q. named_item q (names q)) (limit_of Processes)) else []
+  names_member =
+      if has_name (limit_of Processes)
+      then list_member (codes "names") (upto (λ q. named_item q (names q)) (limit_of Processes))
+      else []

@@ -32,7 +32,8 @@ member_said false true said = said
 -- the numbers below a limit that are listed, in rising order
 unfoldable pub listed_below : (ℕ → Bool) → ℕ → List ℕ
 listed_below listed zero = []
-listed_below listed (suc limit) = listed_below listed limit ++ (if listed limit then limit ∷ [] else [])
+listed_below listed (suc limit) =
+    listed_below listed limit ++ (if listed limit then limit ∷ [] else [])
 
 -- whether the transaction of s has reserved the object of a kind and a number
 abbrev pub owns_one : View → ℕ → Kind → ℕ → Bool
@@ -41,13 +42,20 @@ owns_one V s kind number = V.reserved s (object_in kind number)
 module _ (names : Names) (V : View) where
   -- the numbers of a kind that it has, after a space and the word for the kind
   abbrev pub owned_text : ℕ → Kind → List ℕ
-  owned_text s kind = 32 ∷ (word_of kind ++ list_said (number_said names kind) (listed_below (owns_one V s kind) (limit_of kind)))
+  owned_text s kind =
+      32
+      ∷ (word_of kind
+      ++ list_said (number_said names kind) (listed_below (owns_one V s kind) (limit_of kind)))
 
   -- the line of the transaction that process s began, where one is live
   abbrev pub owner_line : ℕ → List ℕ
   owner_line s =
       if is_live V.table s
-      then codes "owns " ++ (decimal s ++ (after_number (names s) ++ (owned_text s Processes ++ (owned_text s Descriptions ++ (owned_text s Pipes ++ 10 ∷ []))))) else []
+      then codes "owns "
+      ++ (decimal s
+      ++ (after_number (names s)
+      ++ (owned_text s Processes
+      ++ (owned_text s Descriptions ++ (owned_text s Pipes ++ 10 ∷ []))))) else []
 
   -- the lines of all live transactions, by their rising starters
   abbrev pub owner_lines : List ℕ

@@ -27,45 +27,63 @@ use Rattle.tx_step.specs.declared.differing.TwoAnswers.{TwoAnswers}
 use Rattle.tx_state_text.specs.Each.{each_text, upto}
 use Rattle.tx_state_text.specs.Replies.{error_name, spaced_name}
 
--- of a word that is explained: a page that begins with it. Of another one: that it is none, and where the words are
+-- of a word that is explained: a page that begins with it. Of another one: that it is none, and
+-- where the words are
 pub record HelpsOn (word text : List ℕ) : Type 0 where
   pub page : IsTrue (is_page text)
   pub opens : IsUtf8 word → IfSome (asked word) (λ name. IsTrue (opens name text))
-  pub unknown : asked word ≡ None → text ≡ codes "? not explained; help lists the commands, txos explain all other words\n"
+  pub unknown : asked word ≡ None
+      → text ≡ codes "? not explained; help lists the commands, txos explain all other words\n"
 
 -- since which step, where one is found
 abbrev pub since_text : Names → Option Numbered → List ℕ
 since_text names None = []
-since_text names (Some first) = codes " since step " ++ (decimal first.number ++ (codes ": " ++ step_made_text names first.step))
+since_text names (Some first) =
+    codes " since step "
+    ++ (decimal first.number ++ (codes ": " ++ step_made_text names first.step))
 
 -- what an object is called
 abbrev pub name_text : Kind → ℕ → List ℕ
 name_text kind number = word_of kind ++ decimal number
 
--- what a step waits for: a child's end, a byte in a pipe, or room for all its bytes; by the lines of the pipes that it names, and of who has their other
--- side open
+-- what a step waits for: a child's end, a byte in a pipe, or room for all its bytes; by the lines
+-- of the pipes that it names, and of who has their other side open
 abbrev pub waited_by : Names → (List ℕ → List ℕ) → (Side → List ℕ) → Step → List ℕ
-waited_by names pipes who (steps.Call p (calls.Waitpid child nohang)) = codes "proc " ++ (signed_decimal child ++ (after_number (computed_name names child) ++ codes " has not ended\n"))
-waited_by names pipes who (steps.Call p (calls.Read fd address count)) = pipes (codes " has no byte\n") ++ who WriteSide
-waited_by names pipes who (steps.Call p (calls.Write fd address count)) = pipes (codes " has too little room\n") ++ who ReadSide
+waited_by names pipes who (steps.Call p (calls.Waitpid child nohang)) =
+    codes "proc "
+    ++ (signed_decimal child
+    ++ (after_number (computed_name names child) ++ codes " has not ended\n"))
+waited_by names pipes who (steps.Call p (calls.Read fd address count)) =
+    pipes (codes " has no byte\n") ++ who WriteSide
+waited_by names pipes who (steps.Call p (calls.Write fd address count)) =
+    pipes (codes " has too little room\n") ++ who ReadSide
 waited_by names pipes who other = []
 
 -- the line of an object in the way
 abbrev pub blocked_line : Names → Blocked → List ℕ
 blocked_line names b =
-    name_text b.kind b.number ++ (after_number (kind_name names b.kind b.number) ++ (codes ": the transaction of "
-    ++ (decimal b.owner ++ (after_number (names b.owner) ++ (codes " has it" ++ (since_text names b.since ++ 10 ∷ []))))))
+    name_text b.kind b.number
+    ++ (after_number (kind_name names b.kind b.number)
+    ++ (codes ": the transaction of "
+    ++ (decimal b.owner
+    ++ (after_number (names b.owner)
+    ++ (codes " has it" ++ (since_text names b.since ++ 10 ∷ []))))))
 
 -- what is answered, with the name of an error
 abbrev pub named_text : ℤ → List ℕ
 named_text x = signed_decimal x ++ spaced_name (error_name x)
 
--- the line of a signal to s that has two answers: which it is, how it would be answered now, and how after an abort
+-- the line of a signal to s that has two answers: which it is, how it would be answered now, and
+-- how after an abort
 abbrev pub twice_line : Names → ℕ → TwoAnswers → List ℕ
 twice_line names s twice =
-    (codes "signal " ++ (decimal twice.signo.0 ++ (codes " to " ++ (decimal s ++ (after_number (names s) ++ codes ": it would be answered ")))))
+    (codes "signal "
+    ++ (decimal twice.signo.0
+    ++ (codes " to "
+    ++ (decimal s ++ (after_number (names s) ++ codes ": it would be answered ")))))
     ++ (named_text twice.present ++ (codes " now, and " ++ (named_text twice.after_abort
-    ++ (codes " if the transaction of " ++ (decimal s ++ (after_number (names s) ++ codes " were aborted\n"))))))
+    ++ (codes " if the transaction of "
+    ++ (decimal s ++ (after_number (names s) ++ codes " were aborted\n"))))))
 
 abbrev pub twice_line_if : Names → ℕ → Option TwoAnswers → List ℕ
 twice_line_if names s None = []
@@ -74,7 +92,8 @@ twice_line_if names s (Some twice) = twice_line names s twice
 -- the line of a pipe that a step names, and waits for
 module _ (S : State) (h : List Accepted) (step : Step) where
   abbrev pub pipe_line : List ℕ → ℕ → List ℕ
-  pipe_line why number = if names_one S h step Pipes number then name_text Pipes number ++ why else []
+  pipe_line why number =
+      if names_one S h step Pipes number then name_text Pipes number ++ why else []
 
   abbrev pub pipe_lines : List ℕ → List ℕ
   pipe_lines why = upto (pipe_line why) (limit_of Pipes)
@@ -90,10 +109,12 @@ module _ (names : Names) (S : State) (h : List Accepted) (step : Step) where
 
   -- the lines of those pipes, and of who has that side of one open
   abbrev pub waited_text : List ℕ
-  waited_text = waited_by names (pipe_lines S h step) (λ side. holders_line names side (side_holders (view S h) step side)) step
+  waited_text =
+      waited_by names (pipe_lines S h step)
+      (λ side. holders_line names side (side_holders (view S h) step side)) step
 
-  -- the facts of a refusal: of a step in whose way a transaction is, the objects in its way, and its signals that have two answers; of one that waits,
-  -- for what
+  -- the facts of a refusal: of a step in whose way a transaction is, the objects in its way, and
+  -- its signals that have two answers; of one that waits, for what
   abbrev pub fact_lines : Refusal → List ℕ
   fact_lines (Busy starter) = each_text (blocked_line names) (blocked S h step) ++ signal_lines
   fact_lines Wait = waited_text
@@ -101,7 +122,8 @@ module _ (names : Names) (S : State) (h : List Accepted) (step : Step) where
 
 -- what is reported of a step that would get this reply: what is in its way, and who could end its
 -- wait
-pub record IsReason (S : State) (h : List Accepted) (step : Step) (reply : Reply) (reason : Reason) : Type 0 where
+pub record IsReason (S : State) (h : List Accepted) (step : Step) (reply : Reply) (reason : Reason)
+    : Type 0 where
   pub blockers : map blocked_of reason.blockers.items ≡ blocked_by S h step reply
   pub holders : option_map (λ held. held.items) reason.holders ≡ awaited_by (view S h) step reply
 

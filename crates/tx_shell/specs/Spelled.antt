@@ -20,8 +20,12 @@ pub record IsSpelled (s : Standing) : Type 0 where
 
 -- that stays so while lines are answered
 abbrev pub StaysSpelled : Type 0
-StaysSpelled = (s t : Standing) (events : List Event) → Exchanges s events t → IsSpelled s → IsSpelled t
+StaysSpelled =
+    (s t : Standing) (events : List Event) → Exchanges s events t → IsSpelled s → IsSpelled t
 
--- the steps up to the position are those of a schedule, as long as they are no more than a text can hold
+-- the steps up to the position are those of a schedule, as long as they are no more than a text can
+-- hold
 abbrev pub SpellsSchedule : Type 0
-SpellsSchedule = (s : Standing) → IsSpelled s → length (steps_made s.place) ≤ 4096 → IsSchedule (header_in s.origin) (steps_made s.place)
+SpellsSchedule =
+    (s : Standing) → IsSpelled s → length (steps_made s.place) ≤ 4096
+    → IsSchedule (header_in s.origin) (steps_made s.place)

@@ -25,7 +25,8 @@ has_place place queue = if nat_le place (length queue) then nat_lt (length queue
 -- put in before it, where that may be
 abbrev pub entry_swapped : ℕ → Option Queued → List Queued → List Queued
 entry_swapped place None queue = if nat_lt place (length queue) then remove queue place else queue
-entry_swapped place (Some entry) queue = if has_place place queue then insert queue place entry else queue
+entry_swapped place (Some entry) queue =
+    if has_place place queue then insert queue place entry else queue
 
 -- the entry after the exchange: the one that was taken out, none where one was put in, else the
 -- same

@@ -20,7 +20,8 @@ with_pending_part view me = record me { pending = view.standard; queued = view.q
 
 -- the process with this pending at it, and this mask
 abbrev pub with_pending_under : ℕ → PendingView → Process → Process
-with_pending_under mask view me = record me { mask = mask; pending = view.standard; queued = view.queued }
+with_pending_under mask view me =
+    record me { mask = mask; pending = view.standard; queued = view.queued }
 
 -- a process with this pending at it, of which nothing else matters
 abbrev pub alone : PendingView → Process
@@ -40,12 +41,15 @@ with_actions actions me = record me { actions = actions }
 
 -- the signal on its way, with its value
 abbrev pub sending_of : ℕ → ℤ → ℕ → Option Sender → Sending
-sending_of signo value target from = record { target = target; signo = signo; value = value; from = from }
+sending_of signo value target from =
+    record { target = target; signo = signo; value = value; from = from }
 
 -- what a post answers where it is let through: EAGAIN for a realtime signal at a full queue
 abbrev pub post_result : ℕ → PendingView → Result (Unit {0}) Errno
 post_result signo view =
-    if is_realtime signo then (if nat_lt (length view.queued) QUEUED then Ok tt else Err TryAgain) else Ok tt
+    if is_realtime signo
+    then (if nat_lt (length view.queued) QUEUED then Ok tt else Err TryAgain)
+    else Ok tt
 
 -- the answer of a call that gives nothing or an error
 abbrev pub answer_of : Result (Unit {0}) Errno → ℤ

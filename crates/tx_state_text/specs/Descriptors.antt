@@ -28,7 +28,10 @@ wait_text false = codes " block\n"
 -- the line of a description
 abbrev pub desc_text : ℕ → Description → List ℕ
 desc_text number description =
-    codes "desc " ++ (decimal number ++ 32 ∷ (decimal description.pipe ++ (side_text description.side ++ wait_text description.nonblock)))
+    codes "desc "
+    ++ (decimal number ++ 32
+    ∷ (decimal description.pipe
+    ++ (side_text description.side ++ wait_text description.nonblock)))
 
 -- the line of the description of a number: none if there is none
 abbrev pub desc_line : ℕ → Option Description → List ℕ
@@ -42,7 +45,8 @@ descs_text descs = upto (λ number. desc_line number (descs number)) DESCRIPTION
 -- the line of the pipe of a number, with all its bytes: none if there is none
 abbrev pub pipe_line : ℕ → Option (List ℕ) → List ℕ
 pipe_line number None = []
-pipe_line number (Some bytes) = codes "pipe " ++ (decimal number ++ 32 ∷ (bytes_text bytes ++ 10 ∷ []))
+pipe_line number (Some bytes) =
+    codes "pipe " ++ (decimal number ++ 32 ∷ (bytes_text bytes ++ 10 ∷ []))
 
 -- the lines of the pipes, by rising number
 abbrev pub pipes_text : (ℕ → Option (List ℕ)) → List ℕ

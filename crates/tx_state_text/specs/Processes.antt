@@ -24,7 +24,10 @@ flag_text false = codes " r"
 -- the line of a page
 abbrev pub page_text : ℕ → PageView → List ℕ
 page_text number page =
-    codes "page " ++ (decimal number ++ (flag_text page.writable ++ (upto (λ offset. byte_text offset (slice_index page.bytes offset)) 64 ++ 10 ∷ [])))
+    codes "page "
+    ++ (decimal number
+    ++ (flag_text page.writable
+    ++ (upto (λ offset. byte_text offset (slice_index page.bytes offset)) 64 ++ 10 ∷ [])))
 
 -- the line of the page of a number: none if it is not mapped
 abbrev pub page_line : ℕ → Option PageView → List ℕ
@@ -38,7 +41,9 @@ pages_text memory = upto (λ number. page_line number (page_at memory number)) 1
 -- the end of an ended process's line: what it exited with, or the signal that killed it
 abbrev pub status_text : ℕ → List ℕ
 status_text status =
-    if nat_lt status 256 then codes " exit " ++ (decimal status ++ 10 ∷ []) else codes " killed " ++ (decimal (status - 256) ++ 10 ∷ [])
+    if nat_lt status 256
+    then codes " exit " ++ (decimal status ++ 10 ∷ [])
+    else codes " killed " ++ (decimal (status - 256) ++ 10 ∷ [])
 
 -- what follows the number and the parent of a process
 abbrev pub end_text : Option ℕ → Regs → List ℕ
@@ -48,26 +53,40 @@ end_text (Some status) regs = status_text status
 -- the first line of a process
 abbrev pub head_text : ℕ → Process → List ℕ
 head_text number process =
-    codes "proc " ++ (decimal number ++ (codes " parent " ++ (decimal process.parent ++ end_text process.status process.registers)))
+    codes "proc "
+    ++ (decimal number
+    ++ (codes " parent "
+    ++ (decimal process.parent ++ end_text process.status process.registers)))
 
 -- whether every id is 0
 abbrev pub are_root : Ids → Bool
-are_root ids = ids.real_user == 0 && ids.effective_user == 0 && ids.saved_user == 0 && ids.real_group == 0 && ids.effective_group == 0 && ids.saved_group == 0
+are_root ids =
+    ids.real_user == 0
+    && ids.effective_user == 0
+    && ids.saved_user == 0
+    && ids.real_group == 0
+    && ids.effective_group == 0
+    && ids.saved_group == 0
 
 -- three ids, each after a space
 abbrev pub three_ids : ℕ → ℕ → ℕ → List ℕ
-three_ids real effective saved = 32 ∷ (decimal real ++ 32 ∷ (decimal effective ++ 32 ∷ decimal saved))
+three_ids real effective saved =
+    32 ∷ (decimal real ++ 32 ∷ (decimal effective ++ 32 ∷ decimal saved))
 
 -- the line of the ids, where one is not 0
 abbrev pub ids_line : Ids → List ℕ
 ids_line ids =
     if are_root ids then []
-    else codes "ids" ++ (three_ids ids.real_user ids.effective_user ids.saved_user ++ (three_ids ids.real_group ids.effective_group ids.saved_group ++ 10 ∷ []))
+    else codes "ids"
+    ++ (three_ids ids.real_user ids.effective_user ids.saved_user
+    ++ (three_ids ids.real_group ids.effective_group ids.saved_group ++ 10 ∷ []))
 
 -- the lines of what a process has
 abbrev pub own_text : Process → List ℕ
 own_text process =
-    ids_line process.ids ++ (slots_line process.registers.slots ++ (pages_text process.memory ++ (fds_text process.descriptors ++ signals_text process)))
+    ids_line process.ids
+    ++ (slots_line process.registers.slots
+    ++ (pages_text process.memory ++ (fds_text process.descriptors ++ signals_text process)))
 
 -- the lines of a process
 abbrev pub process_text : ℕ → Process → List ℕ

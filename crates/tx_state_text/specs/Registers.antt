@@ -8,7 +8,9 @@ use Rattle.tx_state_text.specs.Each.{each_text}
 
 -- the end of a running process's line
 abbrev pub run_text : Regs → List ℕ
-run_text regs = codes " run point " ++ (decimal regs.point ++ (codes " ret " ++ (signed_decimal regs.ret ++ 10 ∷ [])))
+run_text regs =
+    codes " run point "
+    ++ (decimal regs.point ++ (codes " ret " ++ (signed_decimal regs.ret ++ 10 ∷ [])))
 
 -- the number in a slot
 abbrev pub slot_text : ℤ → List ℕ

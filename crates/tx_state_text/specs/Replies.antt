@@ -19,7 +19,10 @@ refusal_text refusal = refusal_word refusal
 
 -- a send that could not be delivered
 abbrev pub missed_text : Missed → List ℕ
-missed_text missed = 32 ∷ (decimal missed.target.0 ++ 58 ∷ (decimal missed.signo.0 ++ 58 ∷ decimal (error_number missed.errno)))
+missed_text missed =
+    32
+    ∷ (decimal missed.target.0 ++ 58
+    ∷ (decimal missed.signo.0 ++ 58 ∷ decimal (error_number missed.errno)))
 
 -- those that could not be delivered, in order
 abbrev pub undelivered_text : List Missed → List ℕ

@@ -18,11 +18,13 @@ abbrev pub action_line : ℕ → Action → List ℕ
 action_line signo Usual = []
 action_line signo Ignore = codes "action " ++ (decimal signo ++ codes " ignore\n")
 action_line signo (Catch point mask) =
-    codes "action " ++ (decimal signo ++ (codes " catch " ++ (decimal point ++ 32 ∷ (set_text mask ++ 10 ∷ []))))
+    codes "action "
+    ++ (decimal signo ++ (codes " catch " ++ (decimal point ++ 32 ∷ (set_text mask ++ 10 ∷ []))))
 
 -- the lines of the actions, by rising signal
 abbrev pub actions_text : List Action → List ℕ
-actions_text actions = upto (λ signo. action_line signo (slice_index_or actions signo Usual)) SIGNALS
+actions_text actions =
+    upto (λ signo. action_line signo (slice_index_or actions signo Usual)) SIGNALS
 
 -- an entry of the queue
 abbrev pub entry_text : Queued → List ℕ
@@ -30,12 +32,16 @@ entry_text entry = 32 ∷ (decimal entry.signo ++ 58 ∷ signed_decimal entry.va
 
 -- the line of the queue, the first to be taken first, where there is an entry
 abbrev pub queued_line : List Queued → List ℕ
-queued_line entries = if length entries == 0 then [] else codes "queued" ++ (each_text entry_text entries ++ 10 ∷ [])
+queued_line entries =
+    if length entries == 0 then [] else codes "queued" ++ (each_text entry_text entries ++ 10 ∷ [])
 
 -- the line of what a caught signal saved
 abbrev pub frame_text : Frame → List ℕ
 frame_text frame =
-    codes "frame " ++ (decimal frame.registers.point ++ 32 ∷ (signed_decimal frame.registers.ret ++ 32 ∷ (bits_text frame.mask ++ slots_end frame.registers.slots)))
+    codes "frame "
+    ++ (decimal frame.registers.point ++ 32
+    ∷ (signed_decimal frame.registers.ret ++ 32
+    ∷ (bits_text frame.mask ++ slots_end frame.registers.slots)))
 
 -- the lines of what caught signals saved, the oldest first
 abbrev pub frames_text : List Frame → List ℕ
@@ -44,4 +50,7 @@ frames_text frames = each_text frame_text frames
 -- the lines of a process's signals: its mask, actions, pending standard signals, queue and frames
 abbrev pub signals_text : Process → List ℕ
 signals_text process =
-    set_line (codes "mask ") process.mask ++ (actions_text process.actions ++ (set_line (codes "pending ") process.pending ++ (queued_line process.queued ++ frames_text process.frames)))
+    set_line (codes "mask ") process.mask
+    ++ (actions_text process.actions
+    ++ (set_line (codes "pending ") process.pending
+    ++ (queued_line process.queued ++ frames_text process.frames)))

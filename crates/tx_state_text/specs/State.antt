@@ -9,4 +9,7 @@ use Rattle.tx_state_text.specs.Txns.{txns_text}
 abbrev pub state_text : View → List ℕ
 state_text V =
     codes "state\n"
-    ++ (procs_text (present V).width (present V).procs ++ (descs_text (present V).descs ++ (pipes_text (present V).pipes ++ txns_text V.table.width V.table.marks (present V).held)))
+    ++ (procs_text (present V).width (present V).procs
+    ++ (descs_text (present V).descs
+    ++ (pipes_text (present V).pipes
+    ++ txns_text V.table.width V.table.marks (present V).held)))

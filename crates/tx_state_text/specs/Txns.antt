@@ -14,7 +14,8 @@ same_answer false b = not b
 -- whether the mark is one of that starter's transaction, with its part ended or not
 abbrev pub is_listed_in : Option Mark → ℕ → Bool → Bool
 is_listed_in None starter ended = false
-is_listed_in (Some mark) starter ended = if nat_eq mark.starter.0 starter then same_answer mark.ended ended else false
+is_listed_in (Some mark) starter ended =
+    if nat_eq mark.starter.0 starter then same_answer mark.ended ended else false
 
 -- whether one of the first n numbers is listed
 abbrev pub some_of : (ℕ → Bool) → ℕ → Bool
@@ -23,7 +24,8 @@ some_of listed (suc count) = some_after (some_of listed count) (listed count)
 
 -- those of the first n numbers that are listed, joined by commas. The first number is 1
 unfoldable pub listed_text : (ℕ → Bool) → ℕ → List ℕ
-listed_text listed count = upto (λ done. member_text (some_of listed done) (listed done) (done + 1)) count
+listed_text listed count =
+    upto (λ done. member_text (some_of listed done) (listed done) (done + 1)) count
 
 -- the members of a transaction whose part has ended or not
 abbrev pub members_text : ℕ → (ℕ → Option Mark) → ℕ → Bool → List ℕ
@@ -39,21 +41,31 @@ flag_of false = codes " open "
 -- the line of a transaction
 abbrev pub txn_text : ℕ → (ℕ → Option Mark) → ℕ → Bool → List ℕ
 txn_text width marks starter defers =
-    codes "txn " ++ (decimal starter ++ (flag_of defers ++ (members_text width marks starter false ++ (codes " ended " ++ (members_text width marks starter true ++ 10 ∷ [])))))
+    codes "txn "
+    ++ (decimal starter
+    ++ (flag_of defers
+    ++ (members_text width marks starter false
+    ++ (codes " ended " ++ (members_text width marks starter true ++ 10 ∷ [])))))
 
 -- the line of a send that is held: its target, its signal and its value
 abbrev pub held_text : Sending → List ℕ
-held_text sending = codes "held " ++ (decimal sending.target ++ 58 ∷ (decimal sending.signo ++ 58 ∷ (signed_decimal sending.value ++ 10 ∷ [])))
+held_text sending =
+    codes "held "
+    ++ (decimal sending.target ++ 58
+    ∷ (decimal sending.signo ++ 58 ∷ (signed_decimal sending.value ++ 10 ∷ [])))
 
 -- the lines of the sends that a transaction holds, in order
 abbrev pub helds_text : List Sending → List ℕ
 helds_text sendings = each_text held_text sendings
 
--- the lines of a mark, where it is that of a transaction's starter: the transaction, and what it holds
+-- the lines of a mark, where it is that of a transaction's starter: the transaction, and what it
+-- holds
 abbrev pub mark_text : ℕ → (ℕ → Option Mark) → ℕ → List Sending → Option Mark → List ℕ
 mark_text width marks number sendings None = []
 mark_text width marks number sendings (Some mark) =
-    if nat_eq mark.starter.0 number then txn_text width marks number mark.defers ++ helds_text sendings else []
+    if nat_eq mark.starter.0 number
+    then txn_text width marks number mark.defers ++ helds_text sendings
+    else []
 
 -- the lines of a starter's transaction: none where the process has begun none
 abbrev pub txn_lines : ℕ → (ℕ → Option Mark) → (ℕ → List Sending) → ℕ → List ℕ

@@ -26,6 +26,9 @@ IsIdle k = (s : ℕ) → slot_at k.txns s ≡ None
 abbrev pub ContentsAreWhole : Type 0
 ContentsAreWhole = (k : Content) → IsContent k → IsWhole k.parts
 
--- a booted kernel has such a content: its tables fit together, it is one of the laws, and it has the view of no step
+-- a booted kernel has such a content: its tables fit together, it is one of the laws, and it has
+-- the view of no step
 abbrev pub BootedIsContent : Type 0
-BootedIsContent = (k : Content) (width count : ℕ) → 1 ≤ count → count ≤ width → IsShaped k → IsKept (content_of k) → view_of k ≡ view (boot_state width count) [] → IsContent k
+BootedIsContent =
+    (k : Content) (width count : ℕ) → 1 ≤ count → count ≤ width → IsShaped k → IsKept (content_of k)
+    → view_of k ≡ view (boot_state width count) [] → IsContent k

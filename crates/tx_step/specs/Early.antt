@@ -23,20 +23,31 @@ early_refusal V p step =
 
 -- the refusal is this one, else that somebody is in the way
 abbrev pub RefusalIsEarly : Type 0
-RefusalIsEarly = (V : View) (p : ℕ) (step : Step) → refusal V p step ≡ option_or (early_refusal V p step) (busy (starter_in_way V (event_on V step)))
+RefusalIsEarly =
+    (V : View) (p : ℕ) (step : Step)
+    → refusal V p step
+    ≡ option_or (early_refusal V p step) (busy (starter_in_way V (event_on V step)))
 
 -- why the number makes no step, whatever the step is
 abbrev pub process_refusal : View → ℕ → Option Refusal
-process_refusal V p = if not (is_there V p) then Some NoProcess else (if not (is_running ((present V).procs p)) then Some NotRunning else None)
+process_refusal V p =
+    if not (is_there V p)
+    then Some NoProcess
+    else (if not (is_running ((present V).procs p)) then Some NotRunning else None)
 
 -- why a process of this mark makes no step, whatever the step is
 abbrev pub member_refusal : View → Option Mark → Option Refusal
-member_refusal V mark = if is_doomed_at V mark then Some Doomed else (if is_parked mark then Some Parked else None)
+member_refusal V mark =
+    if is_doomed_at V mark then Some Doomed else (if is_parked mark then Some Parked else None)
 
 -- why the process makes no step, where the step delivers SIGKILL or not
 abbrev pub kill_refusal : View → ℕ → Bool → Option Refusal
-kill_refusal V p delivers_kill = if has_pending kill_signo ((present V).procs p) && not delivers_kill then Some KillPending else None
+kill_refusal V p delivers_kill =
+    if has_pending kill_signo ((present V).procs p) && not delivers_kill
+    then Some KillPending
+    else None
 
 -- why a process that runs makes no step, whatever numbers the step chooses
 abbrev pub own_refusal : View → ℕ → Bool → Option Refusal
-own_refusal V p delivers_kill = option_or (member_refusal V (V.table.marks p)) (kill_refusal V p delivers_kill)
+own_refusal V p delivers_kill =
+    option_or (member_refusal V (V.table.marks p)) (kill_refusal V p delivers_kill)

@@ -29,7 +29,8 @@ posted_to m face = record face { queued = queued_after m (Some (face_as face)) f
 
 -- both faces after a post
 abbrev pub both_posted_to : TheSending → Faces → Faces
-both_posted_to m faces = record { present = option_map (posted_to m) faces.present; kept = posted_to m faces.kept }
+both_posted_to m faces =
+    record { present = option_map (posted_to m) faces.present; kept = posted_to m faces.kept }
 
 -- what a step hands out to be held
 abbrev pub sent_at_commit : Sends → List TheSending
@@ -41,26 +42,31 @@ sent_at_commit (AtCommit m) = sending_of m ∷ []
 abbrev pub sent : Sends → List Sending → List TheSending
 sent first held = sent_at_once first ++ (map sending_of held ++ sent_at_commit first)
 
--- the first of these sends to process s that is answered differently at the two faces, one send after another, each face with its own count
--- of what is queued
-unfoldable pub faces_difference : ℕ → List TheSending → Option TheFace → ℕ → Option TheFace → ℕ → Option TwoAnswers
+-- the first of these sends to process s that is answered differently at the two faces, one send
+-- after another, each face with its own count of what is queued
+unfoldable pub faces_difference : ℕ → List TheSending → Option TheFace → ℕ → Option TheFace → ℕ
+    → Option TwoAnswers
 faces_difference s [] one first other second = None
 faces_difference s (m ∷ ms) one first other second =
+    let mine = answer_at m one first in
+    let theirs = answer_at m other second in
     if m.target == s
-    then (if int_eq (answer_at m one first) (answer_at m other second)
+    then (if int_eq mine theirs
     then faces_difference s ms one (queued_after m one first) other (queued_after m other second)
-    else Some (answered_twice m (answer_at m one first) (answer_at m other second)))
+    else Some (answered_twice m mine theirs))
     else faces_difference s ms one first other second
 
 -- the first of these sends to s that is answered differently now than after an abort
 abbrev pub difference : ℕ → List TheSending → Faces → Option TwoAnswers
 difference s ms faces =
-    faces_difference s ms (option_map face_as faces.present) (queued_at faces.present) (Some (face_as faces.kept)) faces.kept.queued
+    faces_difference s ms (option_map face_as faces.present) (queued_at faces.present)
+    (Some (face_as faces.kept)) faces.kept.queued
 
 -- the same of the starter s by its process, and by what is kept of it
 abbrev pub starter_difference : ℕ → List TheSending → Option Process → Kept → Option TwoAnswers
 starter_difference s ms x kept =
-    faces_difference s ms (face_of x) (length (pending_in x).queued) (Some (running (ids_of kept.ids))) (length kept.pending.queued)
+    faces_difference s ms (face_of x) (length (pending_in x).queued)
+    (Some (running (ids_of kept.ids))) (length kept.pending.queued)
 
 -- whether there is one
 abbrev pub starter_differs : ℕ → List TheSending → Option Process → Kept → Bool

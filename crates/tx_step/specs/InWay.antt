@@ -17,19 +17,22 @@ abbrev pub starter_in : Option Mark → Option ℕ
 starter_in None = None
 starter_in (Some m) = Some m.starter.0
 
--- if the process is in a transaction, the event is made by a member of it and what it holds is that transaction's, else by a member of none
+-- if the process is in a transaction, the event is made by a member of it and what it holds is that
+-- transaction's, else by a member of none
 pub record IsOfMember (k : Content) (own : Option ℕ) (event : Event) : Type 0 where
   pub member : own ≡ starter_in (slot_at k.marks (actor event))
   pub holds : (s : ℕ) → has_object (Held s) (objects event (now_of k)) ≡ true → own ≡ Some s
 
--- whether this slot has a transaction of s other than the step's own, and one of these sends to s is answered differently now than after
--- its abort
+-- whether this slot has a transaction of s other than the step's own, and one of these sends to s
+-- is answered differently now than after its abort
 abbrev pub two_answers_in : Option ℕ → List Sending → ℕ → Option Process → Option BoxedTxn → Bool
 two_answers_in own ms s x None = false
-two_answers_in own ms s x (Some boxed) = if is_owner s own then false else starter_differs s ms x boxed.txn.value.kept
+two_answers_in own ms s x (Some boxed) =
+    if is_owner s own then false else starter_differs s ms x boxed.txn.value.kept
 
 abbrev pub gives_two_answers : Content → Option ℕ → List Sending → ℕ → Bool
-gives_two_answers k own ms s = two_answers_in own ms s (process_in (slot_at k.parts.procs s)) (slot_at k.txns s)
+gives_two_answers k own ms s =
+    two_answers_in own ms s (process_in (slot_at k.parts.procs s)) (slot_at k.txns s)
 
 -- the number, if it passes the test
 abbrev pub passing : (ℕ → Bool) → ℕ → Option ℕ

@@ -17,7 +17,8 @@ TellsRule ev S None = IsAccepted (reply_of ev S)
 
 -- why the event was not made: want of memory if its rule accepts it, else the rule's reason
 abbrev pub IsWhyNot : Event → State → Refusal → Type 0
-IsWhyNot ev S why = (why ≡ NoMemory) × IsAccepted (reply_of ev S) ⊎ (reply_of ev S ≡ No why) × (why ≢ NoMemory)
+IsWhyNot ev S why =
+    (why ≡ NoMemory) × IsAccepted (reply_of ev S) ⊎ (reply_of ev S ≡ No why) × (why ≢ NoMemory)
 
 -- the plan of the event was refused for this reason, though it chooses good numbers
 pub record WasRefused (k : Content) (ev : Event) (why : Refusal) : Type 0 where

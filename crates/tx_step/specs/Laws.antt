@@ -20,7 +20,8 @@ pub record StepLaws : Type 0 where
   pub follows : ContentFollowsStep
   pub formed : NextIsWellFormed
   pub view : NextViewIsWellFormed
-  pub keeps : (event : Event) (state : State) → IsWellFormed state → HasGoodNumbers state.width event → IsWellFormed (after event state)
+  pub keeps : (event : Event) (state : State) → IsWellFormed state
+      → HasGoodNumbers state.width event → IsWellFormed (after event state)
   pub answered : EndingsAreAnswered
   pub of_event : FootprintIsOfEvent
   pub clear : NoStarterIsClear

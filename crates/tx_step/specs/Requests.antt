@@ -21,8 +21,8 @@ abbrev pub kind_requested : Request → Kind
 kind_requested (Call call) = kind_of call.now
 kind_requested (Delivery signo) = Ordinary
 
--- whether a call of this kind is only an act of its process: it neither begins nor aborts a transaction of a process that is a member, or
--- is none
+-- whether a call of this kind is only an act of its process: it neither begins nor aborts a
+-- transaction of a process that is a member, or is none
 abbrev pub is_own : Kind → Bool → Bool
 is_own Ordinary member = true
 is_own (Forking child) member = true
@@ -32,5 +32,8 @@ is_own Aborting member = not member
 
 -- the act of such a process is what is requested of it, by its mark: whoever has one is a member
 abbrev pub IsActOf : Request → Bool → Act → Type 0
-IsActOf request member act = (t : Table) (pid : Pid) (mark : Option Mark) (reply : Reply) → t.marks pid.0 ≡ mark → is_some mark ≡ member →
-    is_own (kind_requested request) member ≡ true → event_of (inside_by t mark) pid act ≡ step_event t (step_of pid request) reply
+IsActOf request member act =
+    (t : Table) (pid : Pid) (mark : Option Mark) (reply : Reply) → t.marks pid.0 ≡ mark
+    → is_some mark ≡ member →
+    is_own (kind_requested request) member ≡ true
+    → event_of (inside_by t mark) pid act ≡ step_event t (step_of pid request) reply

@@ -30,10 +30,11 @@ use Rattle.tx_step.specs.declared.answered.Answered.{Answered}
 use Rattle.tx_step.specs.declared.answered.Answered.TheVariants.{Acted, Committed, Aborted}
 use Rattle.tx_txn.specs.Content.{is_named}
 
--- the reply to a step of process p that left this content and this inverse: bytes that it shows are of the memory that the process has now;
--- what could not be delivered is in the inverse
+-- the reply to a step of process p that left this content and this inverse: bytes that it shows are
+-- of the memory that the process has now; what could not be delivered is in the inverse
 abbrev pub replied : Content → ℕ → Inverse → Answered → Reply
-replied k p inverse (Acted outcome) = reply_of (memory_in (process_in (slot_at k.parts.procs p))) outcome
+replied k p inverse (Acted outcome) =
+    reply_of (memory_in (process_in (slot_at k.parts.procs p))) outcome
 replied k p inverse Committed = reply.Committed (record { items = missed_of inverse })
 replied k p inverse (Aborted status) = reply.Aborted status
 
@@ -43,18 +44,26 @@ FitsReply (reply.Committed undelivered) = length undelivered.items ≤ UNDELIVER
 FitsReply (reply.Out bytes) = length bytes.items ≤ CONSOLE_BYTES
 FitsReply reply = Unit {0}
 
--- what a step names: the objects of its footprint, the targets of its sends, and, where it ends a transaction, what that reserved
+-- what a step names: the objects of its footprint, the targets of its sends, and, where it ends a
+-- transaction, what that reserved
 pub data IsNamedBy (view : View) (step : Step) (object : Object) : Type 0 where
-  InFootprint : has_object object (footprint view.table step (present view)) ≡ true → IsNamedBy view step object
-  GetsSend : has_object object (processes_of (effect (event_on view step) (present view)).sends) ≡ true → IsNamedBy view step object
-  WasTouched : (starter : ℕ) → ends_it starter (role_on view step) ≡ true → view.reserved starter object ≡ true → IsNamedBy view step object
+  InFootprint : has_object object (footprint view.table step (present view)) ≡ true
+      → IsNamedBy view step object
+  GetsSend :
+      has_object object (processes_of (effect (event_on view step) (present view)).sends) ≡ true
+      → IsNamedBy view step object
+  WasTouched : (starter : ℕ) → ends_it starter (role_on view step) ≡ true
+      → view.reserved starter object ≡ true → IsNamedBy view step object
 
 -- each change of the inverse is of an object that the step names
 abbrev pub IsLocal : Content → Step → Content → Inverse → Type 0
-IsLocal old step new inverse = (object : Object) → is_named object (changes_of new inverse) ≡ true → IsNamedBy (view_of old) step object
+IsLocal old step new inverse =
+    (object : Object) → is_named object (changes_of new inverse) ≡ true
+    → IsNamedBy (view_of old) step object
 
 -- the step was accepted with this reply, and left this content and this inverse
-pub record IsStep (old : Content) (step : Step) (reply : Reply) (inverse : Inverse) (new : Content) : Type 0 where
+pub record IsStep (old : Content) (step : Step) (reply : Reply) (inverse : Inverse) (new : Content)
+    : Type 0 where
   pub answered : answer (view_of old) step ≡ reply
   pub accepted : IsAccepted reply
   pub fits : FitsReply reply
@@ -74,15 +83,19 @@ abbrev pub IsKernelAbort : Step → Type 0
 IsKernelAbort (KernelAbort starter) = Unit {0}
 IsKernelAbort step = ⊥
 
--- the step was refused, and changed nothing: for want of memory, where nothing else refused it and it is neither a member's
--- sys_xabort nor the kernel's abort; or as the answer says
+-- the step was refused, and changed nothing: for want of memory, where nothing else refused it and
+-- it is neither a member's sys_xabort nor the kernel's abort; or as the answer says
 abbrev pub IsRefused : Content → Step → Refusal → Content → Type 0
 IsRefused old step why new =
     (new ≡ old)
-    × ((why ≡ NoMemory) × IsAccepted (answer (view_of old) step) × (IsXabort old step → ⊥) × (IsKernelAbort step → ⊥)
+    × ((why ≡ NoMemory)
+    × IsAccepted (answer (view_of old) step)
+    × (IsXabort old step → ⊥)
+    × (IsKernelAbort step → ⊥)
     ⊎ (answer (view_of old) step ≡ reply.No why) × (why ≢ NoMemory))
 
 -- what a step answers and leaves
 abbrev pub Takes : Content → Step → Result Answered Refusal → Inverse → Content → Type 0
-Takes old step (Ok answered) inverse new = IsStep old step (replied new (process_of step) inverse answered) inverse new
+Takes old step (Ok answered) inverse new =
+    IsStep old step (replied new (process_of step) inverse answered) inverse new
 Takes old step (Err why) inverse new = IsRefused old step why new

@@ -22,22 +22,30 @@ first_difference t [] xs ys = None
 first_difference t (m ∷ ms) [] ys = None
 first_difference t (m ∷ ms) (x ∷ xs) [] = None
 first_difference t (m ∷ ms) (x ∷ xs) (y ∷ ys) =
-    if m.target == t then (if int_eq x y then first_difference t ms xs ys else Some (answered_twice m x y)) else first_difference t ms xs ys
+    if m.target == t
+    then (if int_eq x y then first_difference t ms xs ys else Some (answered_twice m x y))
+    else first_difference t ms xs ys
 
 module _ (V : View) where
   -- the first post of the event to s that is answered differently without the transaction of s
   abbrev pub difference_at : Event → ℕ → Option TwoAnswers
   difference_at ev s =
-      let f = effect ev (present V) in first_difference s f.sends (send_answers f (present V)) (send_answers f (V.without (just s)))
+      let f = effect ev (present V) in
+      first_difference s f.sends (send_answers f (present V)) (send_answers f (V.without (just s)))
 
-  -- the first signal of a step that has two answers, to the starter s of a live transaction: none where the step names s, and
-  -- none of a step whose process does not run
+  -- the first signal of a step that has two answers, to the starter s of a live transaction: none
+  -- where the step names s, and none of a step whose process does not run
   abbrev pub two_answers : Step → ℕ → Option TwoAnswers
   two_answers step s =
       if not (is_live V.table s) then None else
       if has_object (Proc s) (footprint V.table step (present V)) then None else
-      if not (is_running ((present V).procs (process_of step))) then None else difference_at (event_on V step) s
+      if not (is_running ((present V).procs (process_of step)))
+      then None
+      else difference_at (event_on V step) s
 
--- an event has such a signal exactly where the definitions say that one of its posts has two answers
+-- an event has such a signal exactly where the definitions say that one of its posts has two
+-- answers
 abbrev pub DifferencesAreFound : Type 0
-DifferencesAreFound = (V : View) (event : Event) (s : ℕ) → is_some (difference_at V event s) ≡ has_two_answers V event s
+DifferencesAreFound =
+    (V : View) (event : Event) (s : ℕ)
+    → is_some (difference_at V event s) ≡ has_two_answers V event s

@@ -30,7 +30,8 @@ abbrev pub posted_with : Content → StepRole → Sends → List Sending
 posted_with k Outside first = sent_at_once first
 posted_with k (Begins defers) first = sent_at_once first
 posted_with k (Inside starter progress) first = sent_at_once first
-posted_with k (Commits starter) first = sent_at_once first ++ (held_of k starter.0 ++ sent_at_commit first)
+posted_with k (Commits starter) first =
+    sent_at_once first ++ (held_of k starter.0 ++ sent_at_commit first)
 posted_with k (Aborts starter) first = sent_at_once first
 
 -- what the transaction holds that the step commits, if it commits one
@@ -48,7 +49,9 @@ pub record IsOwnActor (k : Content) (pid : Pid) (actor : Actor) : Type 0 where
 
 -- whoever makes the call, it sends nothing
 abbrev pub SendsNothing : Call → Type 0
-SendsNothing call = (inside : Option TheInside) (p : ℕ) (me : Process) (S : State) → (call_effect inside p call me S).sends ≡ []
+SendsNothing call =
+    (inside : Option TheInside) (p : ℕ) (me : Process) (S : State)
+    → (call_effect inside p call me S).sends ≡ []
 
 -- whoever makes the call, it names only its process and sends nothing
 pub record ConcernsItself (call : Call) : Type 0 where
@@ -57,14 +60,20 @@ pub record ConcernsItself (call : Call) : Type 0 where
 
 -- what is posted with a call, by its role and by what it sends first
 abbrev pub CallIsPosted : Type 0
-CallIsPosted = (k : Content) (pid : Pid) (actor : Actor) → IsOwnActor k pid actor → (called : Call) (role : StepRole) (first : Sends) →
+CallIsPosted =
+    (k : Content) (pid : Pid) (actor : Actor) → IsOwnActor k pid actor
+    → (called : Call) (role : StepRole) (first : Sends) →
     role_as pid.0 role ≡ role_on (view_of k) (Calls pid called) →
-    IsSentBy actor first (λ S. call_effect (inside_of actor.inside) actor.pid.0 called (me_of actor) S) →
+    IsSentBy actor first
+    (λ S. call_effect (inside_of actor.inside) actor.pid.0 called (me_of actor) S) →
     (effect (event_on (view_of k) (Calls pid called)) (now_of k)).sends ≡ posted_with k role first
 
 -- and with a delivery
 abbrev pub DeliveryIsPosted : Type 0
-DeliveryIsPosted = (k : Content) (pid : Pid) (actor : Actor) → IsOwnActor k pid actor → (signo : Signo) (role : StepRole) (first : Sends) →
+DeliveryIsPosted =
+    (k : Content) (pid : Pid) (actor : Actor) → IsOwnActor k pid actor
+    → (signo : Signo) (role : StepRole) (first : Sends) →
     role_as pid.0 role ≡ role_on (view_of k) (Deliver pid signo) →
-    IsSentBy actor first (λ S. delivery_effect (inside_of actor.inside) actor.pid.0 signo.0 (me_of actor) S) →
+    IsSentBy actor first
+    (λ S. delivery_effect (inside_of actor.inside) actor.pid.0 signo.0 (me_of actor) S) →
     (effect (event_on (view_of k) (Deliver pid signo)) (now_of k)).sends ≡ posted_with k role first

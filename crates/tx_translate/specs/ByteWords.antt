@@ -8,7 +8,10 @@ use Rattle.tx_translate.specs.Strings.{meant}
 
 -- whether a word is hex digits for 1 to 64 bytes
 abbrev pub is_hex : List ℕ → Bool
-is_hex digits = nat_le 1 (length digits) && (nat_le (length digits) 128 && (nat_eq (length digits % 2) 0 && list_all is_ascii_hexdigit digits))
+is_hex digits =
+    nat_le 1 (length digits)
+    && (nat_le (length digits) 128
+    && (nat_eq (length digits % 2) 0 && list_all is_ascii_hexdigit digits))
 
 -- the digits of a word, without `0x` where it begins so
 abbrev pub digits_of : List ℕ → List ℕ
@@ -27,4 +30,6 @@ hex_or word (Some bytes) = encode_lower bytes
 abbrev pub plain_bytes : List ℕ → List ℕ
 plain_bytes [] = []
 plain_bytes (byte ∷ bytes) =
-    if nat_eq byte 34 then hex_or (byte ∷ bytes) (meant bytes) else lower_or (byte ∷ bytes) (digits_of (byte ∷ bytes))
+    if nat_eq byte 34
+    then hex_or (byte ∷ bytes) (meant bytes)
+    else lower_or (byte ∷ bytes) (digits_of (byte ∷ bytes))

@@ -28,7 +28,8 @@ pub record WritesFront (left written written' : Option (List ℕ)) : Type 0 wher
   pub bytes : Appends written written' (take count meant)
 
 -- a text is read, and what it means written, or a front of that, or nothing, as the fault says
-abbrev pub TranslatesText : Option (List ℕ) → Counts → Option (List ℕ) → Counts → Result (Unit {0}) Fault → Counts → Option (List ℕ) → Counts → Type 0
+abbrev pub TranslatesText : Option (List ℕ) → Counts → Option (List ℕ) → Counts
+    → Result (Unit {0}) Fault → Counts → Option (List ℕ) → Counts → Type 0
 TranslatesText left reads written writes (Ok _) reads' written' writes' =
     WritesMeant left written written' × IsCalm reads reads' × IsCalm writes writes'
 TranslatesText left reads written writes (Err (TooLong line)) reads' written' writes' =
@@ -37,7 +38,9 @@ TranslatesText left reads written writes (Err Reader) reads' written' writes' =
     ((reads.failed < reads'.failed) ⊎ (reads'.again ≡ reads.again + 1001)) × Keeps written written'
 TranslatesText left reads written writes (Err Writer) reads' written' writes' =
     WritesFront left written written'
-    × ((writes.failed < writes'.failed) ⊎ ((writes.empty < writes'.empty) ⊎ (writes'.again ≡ writes.again + 1001)))
-TranslatesText left reads written writes (Err NoMemory) reads' written' writes' = Keeps written written'
+    × ((writes.failed < writes'.failed)
+    ⊎ ((writes.empty < writes'.empty) ⊎ (writes'.again ≡ writes.again + 1001)))
+TranslatesText left reads written writes (Err NoMemory) reads' written' writes' =
+    Keeps written written'
 TranslatesText left reads written writes (Err (NotALine line)) reads' written' writes' = ⊥
 TranslatesText left reads written writes (Err (NoLabel line)) reads' written' writes' = ⊥

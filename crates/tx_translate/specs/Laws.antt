@@ -43,14 +43,21 @@ StepsStay = (step : Step) → FitsStep step → StepStays step
 -- a schedule means itself, but for its header
 abbrev pub ScheduleStays : Type 0
 ScheduleStays = (count : ℕ) (steps : List Step) → count < 2 ^ 16 → All (FitsStepOf Two) steps
-    → Means (third_header Schedule count ++ 10 ∷ steps_text steps) (schedule_text (second count) steps)
+    → Means (third_header Schedule count ++ 10 ∷ steps_text steps)
+    (schedule_text (second count) steps)
 
 -- so does one with commands
 abbrev pub WalkStays : Type 0
-WalkStays = (count : ℕ) (steps : List Step) (commands : List Command) → count < 2 ^ 16 → All (FitsStepOf Two) steps → All (FitsCommand Two) commands
-    → Means (third_header Schedule count ++ 10 ∷ before_commands steps (lines_of command_text commands)) (walk_text (second count) steps commands)
+WalkStays =
+    (count : ℕ) (steps : List Step) (commands : List Command) → count < 2 ^ 16
+    → All (FitsStepOf Two) steps → All (FitsCommand Two) commands
+    → Means
+    (third_header Schedule count ++ 10
+    ∷ before_commands steps (lines_of command_text commands))
+    (walk_text (second count) steps commands)
 
 -- and so does a program
 abbrev pub ProgramStays : Type 0
 ProgramStays = (count : ℕ) (lines : List Line) → count < 2 ^ 16 → All (IsLineOf Two) lines
-    → Means (third_header Program count ++ 10 ∷ lines_of line_text lines) (program_text (second count) lines)
+    → Means (third_header Program count ++ 10 ∷ lines_of line_text lines)
+    (program_text (second count) lines)

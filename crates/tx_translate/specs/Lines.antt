@@ -17,7 +17,8 @@ spaced (word ∷ words) = 32 ∷ word ++ spaced words
 -- the arguments of a call from a place on
 abbrev pub plain_arguments : List ℕ → ℕ → List (List ℕ) → List (List ℕ)
 plain_arguments name place [] = []
-plain_arguments name place (word ∷ words) = plain_word (role_of name place) word ∷ plain_arguments name (place + 1) words
+plain_arguments name place (word ∷ words) =
+    plain_word (role_of name place) word ∷ plain_arguments name (place + 1) words
 
 -- a call: its name, and its arguments
 abbrev pub plain_call : List (List ℕ) → List (List ℕ)
@@ -29,7 +30,8 @@ abbrev pub plain_version : List (List ℕ) → List (List ℕ)
 plain_version [] = []
 plain_version (version ∷ words) = codes "2" ∷ words
 
--- what follows the first word of a line: that word stays, as the name of a call in a program, and as a process in a schedule
+-- what follows the first word of a line: that word stays, as the name of a call in a program, and
+-- as a process in a schedule
 abbrev pub plain_others : Stage → List ℕ → List (List ℕ) → List (List ℕ)
 plain_others Heading first others = plain_version others
 plain_others (Within Program) first others = plain_arguments first 0 others
@@ -42,16 +44,21 @@ line_of_words stage first others = first ++ spaced (plain_others stage first oth
 -- the line of some words; nothing for none, and where they give a name to a process
 abbrev pub plain_of_words : Stage → List (List ℕ) → Option (List ℕ)
 plain_of_words stage [] = None
-plain_of_words stage (first ∷ others) = if names_process stage first others then None else Some (line_of_words stage first others)
+plain_of_words stage (first ∷ others) =
+    if names_process stage first others then None else Some (line_of_words stage first others)
 
 -- a line of version 2, or the line that means it where that became too long
 abbrev pub short_or : List ℕ → Option (List ℕ) → Option (List ℕ)
 short_or line None = None
 short_or line (Some plain) = if nat_lt 512 (length plain) then Some line else Some plain
 
--- the line that a line means; nothing where it has no word or names a process. One that is too long stays as it is: so it is too long for the reader of the plain text
+-- the line that a line means; nothing where it has no word or names a process. One that is too long
+-- stays as it is: so it is too long for the reader of the plain text
 abbrev pub plain_line : Stage → List ℕ → Option (List ℕ)
-plain_line stage line = if nat_lt 512 (length line) then Some line else short_or line (plain_of_words stage (words_in line))
+plain_line stage line =
+    if nat_lt 512 (length line)
+    then Some line
+    else short_or line (plain_of_words stage (words_in line))
 
 -- the kind of a text, by what follows the first word of its header
 abbrev pub kind_of : List (List ℕ) → TextKind

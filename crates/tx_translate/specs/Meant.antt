@@ -24,7 +24,8 @@ fault_by lines Writer = Writer
 fault_by lines NoMemory = NoMemory
 
 -- the fault is one of the text that a text means, reported at the text's own line
-pub record IsOwnFault (IsFault : List ℕ → Fault → Type 0) (text : List ℕ) (fault : Fault) : Type 0 where
+pub record IsOwnFault (IsFault : List ℕ → Fault → Type 0) (text : List ℕ) (fault : Fault)
+    : Type 0 where
   pub meant : Fault
   pub is_fault : IsFault (meant_of text) meant
   pub own : fault ≡ fault_by (own_line text) meant

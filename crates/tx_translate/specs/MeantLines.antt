@@ -39,14 +39,20 @@ pub record IsNextLine (left : List ℕ) (line : OwnLine) (rest : List ℕ) : Typ
   pub ended : line.is_ended ≡ is_some (after_line left)
   pub behind : rest ≡ behind left
 
--- some lines of a text of version 3 mean its meant lines from that number on; the first of them has that own number
+-- some lines of a text of version 3 mean its meant lines from that number on; the first of them has
+-- that own number
 abbrev pub MeanFrom : List ℕ → ℕ → Stage → ℕ → List (List ℕ) → Type 0
-MeanFrom text number stage own lines = (k : ℕ) → line_in text (number + k) ≡ slice_index_or (numbers_from stage own lines) k (own + length lines)
+MeanFrom text number stage own lines =
+    (k : ℕ)
+    → line_in text (number + k)
+    ≡ slice_index_or (numbers_from stage own lines) k (own + length lines)
 
 -- the own lines have their numbers in the text, where that one is meant first
 abbrev pub AreOwnFrom : Option Stage → List ℕ → ℕ → MeantLines → Type 0
 AreOwnFrom None text number lines = lines.number ≡ min number (2 ^ 64 - 1)
-AreOwnFrom (Some stage) text number lines = MeanFrom text number stage lines.number (own_lines lines.left.now) × (lines.number + length lines.left.now < 2 ^ 64)
+AreOwnFrom (Some stage) text number lines =
+    MeanFrom text number stage lines.number (own_lines lines.left.now)
+    × (lines.number + length lines.left.now < 2 ^ 64)
 
 pub record OwnsFrom (text : List ℕ) (number : ℕ) (lines : MeantLines) : Type 0 where
   pub third : is_third text ≡ is_some lines.stage

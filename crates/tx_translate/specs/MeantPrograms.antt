@@ -12,7 +12,10 @@ use Rattle.tx_translate.specs.Meant.{meant_of, IsOwnFault}
 
 -- the text means that program
 abbrev pub IsMeantProgram : List ℕ → Program → Type 0
-IsMeantProgram text program = (lines : List Line) × IsProgramOf lines program × (meant_of text ≡ program_text program.header lines)
+IsMeantProgram text program =
+    (lines : List Line)
+    × IsProgramOf lines program
+    × (meant_of text ≡ program_text program.header lines)
 
 -- the program that a text means, or the text's fault
 abbrev pub MeansProgramOf : List ℕ → Result Program Fault → Type 0
@@ -26,15 +29,21 @@ pub record MeansProgram (left : Option (List ℕ)) (program : Program) : Type 0 
   pub short : IfSome left (λ bytes. length bytes ≤ 1048576)
   pub text : IfSome left (λ bytes. meant_of bytes ≡ program_text program.header lines)
 
--- the program that the text means which was left to read; or the text is at fault; or the source failed, or was interrupted once too often
+-- the program that the text means which was left to read; or the text is at fault; or the source
+-- failed, or was interrupted once too often
 abbrev pub MeansProgramFrom : Option (List ℕ) → Counts → Result Program Fault → Counts → Type 0
 MeansProgramFrom left reads (Ok program) reads' = MeansProgram left program × IsCalm reads reads'
 MeansProgramFrom left reads (Err (NotALine line)) reads' =
-    IfSome left (λ bytes. (length bytes ≤ 1048576) × IsOwnFault IsProgramFault bytes (NotALine line))
+    IfSome left
+    (λ bytes. (length bytes ≤ 1048576) × IsOwnFault IsProgramFault bytes (NotALine line))
 MeansProgramFrom left reads (Err (NoLabel line)) reads' =
     IfSome left (λ bytes. (length bytes ≤ 1048576) × IsOwnFault IsProgramFault bytes (NoLabel line))
 MeansProgramFrom left reads (Err (TooLong line)) reads' =
-    IfSome left (λ bytes. ((line ≡ 0) × (1048576 < length bytes)) ⊎ ((length bytes ≤ 1048576) × IsOwnFault IsProgramFault bytes (TooLong line)))
-MeansProgramFrom left reads (Err Reader) reads' = (reads.failed < reads'.failed) ⊎ (reads'.again ≡ reads.again + 1001)
+    IfSome left
+    (λ bytes.
+    ((line ≡ 0) × (1048576 < length bytes))
+    ⊎ ((length bytes ≤ 1048576) × IsOwnFault IsProgramFault bytes (TooLong line)))
+MeansProgramFrom left reads (Err Reader) reads' =
+    (reads.failed < reads'.failed) ⊎ (reads'.again ≡ reads.again + 1001)
 MeansProgramFrom left reads (Err Writer) reads' = ⊥
 MeansProgramFrom left reads (Err NoMemory) reads' = Unit {0}

@@ -7,7 +7,9 @@ use Rattle.tx_translate.specs.Meant.{meant_of, IsOwnFault}
 
 -- the text means that schedule
 abbrev pub MeansSchedule : List ℕ → Schedule → Type 0
-MeansSchedule text schedule = IsSchedule schedule.header schedule.steps.items × (meant_of text ≡ schedule_text schedule.header schedule.steps.items)
+MeansSchedule text schedule =
+    IsSchedule schedule.header schedule.steps.items
+    × (meant_of text ≡ schedule_text schedule.header schedule.steps.items)
 
 -- the schedule that a text means, or the text's fault
 abbrev pub MeansScheduleOf : List ℕ → Result Schedule Fault → Type 0

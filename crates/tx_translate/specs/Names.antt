@@ -1,4 +1,5 @@
--- The names that the lines of a schedule give to processes: `name`, the number of a process, and its name.
+-- The names that the lines of a schedule give to processes: `name`, the number of a process, and
+-- its name.
 use Rattle.std.specs.Prelude.{ℕ, zero, suc, Bool, false, ◌&&◌, ◌||◌, List, [], ◌∷◌, length, nat_eq, nat_le, codes, Option, Some, None, is_some, option_map, if◌then◌else◌}
 use Rattle.std.specs.Char.{is_ascii_alphanumeric}
 use Rattle.std.specs.Fmt.{decimal}
@@ -12,7 +13,9 @@ use Rattle.tx_translate.specs.declared.stage.Stage.TheVariants.{Heading, Within}
 
 -- a letter, a digit, `.`, `_`, `+` or `-`
 abbrev pub is_name_byte : ℕ → Bool
-is_name_byte byte = is_ascii_alphanumeric byte || (nat_eq byte 46 || (nat_eq byte 95 || (nat_eq byte 43 || nat_eq byte 45)))
+is_name_byte byte =
+    is_ascii_alphanumeric byte
+    || (nat_eq byte 46 || (nat_eq byte 95 || (nat_eq byte 43 || nat_eq byte 45)))
 
 -- 1 to 16 of these
 abbrev pub is_name : List ℕ → Bool
@@ -21,7 +24,8 @@ is_name word = nat_le 1 (length word) && (nat_le (length word) 16 && list_all is
 -- the number from 1 to a last one that a word spells
 abbrev pub process_upto : ℕ → List ℕ → Option ℕ
 process_upto zero word = None
-process_upto (suc n) word = if bytes_eq word (decimal (suc n)) then Some (suc n) else process_upto n word
+process_upto (suc n) word =
+    if bytes_eq word (decimal (suc n)) then Some (suc n) else process_upto n word
 
 -- the number of a process, 1 to 256, that a word spells
 unfoldable pub process_in : List ℕ → Option ℕ
@@ -29,7 +33,8 @@ process_in word = process_upto 256 word
 
 -- the process that two words give a name to, and the name
 abbrev pub named_as : List ℕ → List ℕ → Option (ℕ × List ℕ)
-named_as number name = if is_name name then option_map (λ process. (process, name)) (process_in number) else None
+named_as number name =
+    if is_name name then option_map (λ process. (process, name)) (process_in number) else None
 
 abbrev pub named_by : List (List ℕ) → Option (ℕ × List ℕ)
 named_by [] = None

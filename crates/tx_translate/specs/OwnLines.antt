@@ -1,4 +1,5 @@
--- The lines of a text that a person wrote. A line ends with byte 10, or where the text ends; one byte 13 right before its end is no part of it.
+-- The lines of a text that a person wrote. A line ends with byte 10, or where the text ends; one
+-- byte 13 right before its end is no part of it.
 use Rattle.std.specs.Prelude.{ℕ, List, [], ◌∷◌, map, nat_eq, if◌then◌else◌}
 
 -- the same parts, with one byte more at the front of the first
@@ -9,7 +10,8 @@ with_byte byte (part ∷ parts) = (byte ∷ part) ∷ parts
 -- the lines without byte 10
 abbrev pub ended_lines : List ℕ → List (List ℕ)
 ended_lines [] = []
-ended_lines (byte ∷ bytes) = if nat_eq byte 10 then [] ∷ ended_lines bytes else with_byte byte (ended_lines bytes)
+ended_lines (byte ∷ bytes) =
+    if nat_eq byte 10 then [] ∷ ended_lines bytes else with_byte byte (ended_lines bytes)
 
 -- a line without the byte 13 at its end, where it has one
 abbrev pub without_return : List ℕ → List ℕ

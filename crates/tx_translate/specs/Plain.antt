@@ -13,10 +13,12 @@ abbrev pub begins_with : List ℕ → List (List ℕ) → Bool
 begins_with word [] = false
 begins_with word (first ∷ others) = bytes_eq first word
 
--- whether the words of a line are those of a header of version 3; where it has none, the lines after it decide
+-- whether the words of a line are those of a header of version 3; where it has none, the lines
+-- after it decide
 abbrev pub is_header_or : Bool → List (List ℕ) → Bool
 is_header_or later [] = later
-is_header_or later (first ∷ others) = bytes_eq first (codes "txos") && begins_with (codes "3") others
+is_header_or later (first ∷ others) =
+    bytes_eq first (codes "txos") && begins_with (codes "3") others
 
 -- whether the first line that has a word is a header of version 3
 abbrev pub is_third_from : List (List ℕ) → Bool
@@ -39,7 +41,8 @@ ended (Some line) = line ++ 10 ∷ []
 -- the lines that some lines mean
 abbrev pub plain_from : Stage → List (List ℕ) → List ℕ
 plain_from stage [] = []
-plain_from stage (line ∷ lines) = ended (plain_line stage line) ++ plain_from (stage_after stage (words_in line)) lines
+plain_from stage (line ∷ lines) =
+    ended (plain_line stage line) ++ plain_from (stage_after stage (words_in line)) lines
 
 -- the text of version 2 that a text of version 3 means
 abbrev pub plain_of : List ℕ → List ℕ
@@ -54,14 +57,17 @@ numbered number (Some line) numbers = number ∷ numbers
 abbrev pub numbers_from : Stage → ℕ → List (List ℕ) → List ℕ
 numbers_from stage number [] = []
 numbers_from stage number (line ∷ lines) =
-    numbered number (plain_line stage line) (numbers_from (stage_after stage (words_in line)) (number + 1) lines)
+    numbered number (plain_line stage line)
+    (numbers_from (stage_after stage (words_in line)) (number + 1) lines)
 
 abbrev pub numbers_of : List ℕ → List ℕ
 numbers_of text = numbers_from Heading 1 (own_lines text)
 
--- the number of the line that means a line of the plain text, from 1; that after the last for what comes after the last, and 0 for the text as a whole
+-- the number of the line that means a line of the plain text, from 1; that after the last for what
+-- comes after the last, and 0 for the text as a whole
 abbrev pub line_among : List ℕ → ℕ → ℕ → ℕ
-line_among numbers after number = if nat_eq number 0 then 0 else slice_index_or numbers (number - 1) after
+line_among numbers after number =
+    if nat_eq number 0 then 0 else slice_index_or numbers (number - 1) after
 
 abbrev pub line_in : List ℕ → ℕ → ℕ
 line_in text number = line_among (numbers_of text) (length (own_lines text) + 1) number

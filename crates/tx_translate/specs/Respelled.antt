@@ -16,7 +16,8 @@ abbrev pub spaced_byte : Bool → ℕ → List ℕ
 spaced_byte true byte = 32 ∷ byte ∷ []
 spaced_byte false byte = byte ∷ []
 
--- the words of a line from within one on, with a space between each two, whether or not blanks came before; nothing where it may have a string
+-- the words of a line from within one on, with a space between each two, whether or not blanks came
+-- before; nothing where it may have a string
 abbrev pub squeezed : Bool → List ℕ → Option (List ℕ)
 squeezed gap [] = Some []
 squeezed gap (byte ∷ bytes) =
@@ -32,7 +33,12 @@ IsNamed word signo = (named_signal word ≡ Some signo) × (signo < 64)
 -- the second step is the first with what the word means in place of its last argument
 abbrev pub IsRespelled : List ℕ → Step → Step → Type 0
 IsRespelled word (steps.Call pid (call.Store address old)) step =
-    (bytes : ArrayVec ℕ) × (step ≡ steps.Call pid (call.Store address bytes)) × (plain_bytes word ≡ encode_lower bytes.items) × FitsArgument (Argument.Bytes bytes.items)
-IsRespelled word (steps.Call pid (call.Kill target old)) step = (signo : ℕ) × (step ≡ steps.Call pid (call.Kill target (pos signo))) × IsNamed word signo
-IsRespelled word (steps.Deliver pid old) step = (signo : Signo) × (step ≡ steps.Deliver pid signo) × IsNamed word signo.0
+    (bytes : ArrayVec ℕ)
+    × (step ≡ steps.Call pid (call.Store address bytes))
+    × (plain_bytes word ≡ encode_lower bytes.items)
+    × FitsArgument (Argument.Bytes bytes.items)
+IsRespelled word (steps.Call pid (call.Kill target old)) step =
+    (signo : ℕ) × (step ≡ steps.Call pid (call.Kill target (pos signo))) × IsNamed word signo
+IsRespelled word (steps.Deliver pid old) step =
+    (signo : Signo) × (step ≡ steps.Deliver pid signo) × IsNamed word signo.0
 IsRespelled word before step = ⊥

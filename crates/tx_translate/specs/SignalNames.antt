@@ -31,7 +31,8 @@ named_signal word = number_of_name (bare_name word)
 -- the first of some numbers that a word spells
 abbrev pub number_among : List ℕ → List ℕ → Option ℕ
 number_among [] word = None
-number_among (number ∷ numbers) word = if bytes_eq word (decimal number) then Some number else number_among numbers word
+number_among (number ∷ numbers) word =
+    if bytes_eq word (decimal number) then Some number else number_among numbers word
 
 -- the known signal whose number a word spells
 abbrev pub numbered_signal : List ℕ → Option ℕ

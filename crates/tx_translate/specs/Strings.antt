@@ -22,8 +22,8 @@ abbrev pub at_close : List ℕ → Option (List ℕ)
 at_close [] = Some []
 at_close (byte ∷ bytes) = None
 
--- the bytes that what is left of a string means, whether or not a `\` is the last byte before; nothing where its end is missing, where more follows at
--- once, or where it has another escape
+-- the bytes that what is left of a string means, whether or not a `\` is the last byte before;
+-- nothing where its end is missing, where more follows at once, or where it has another escape
 abbrev pub meant_from : Bool → List ℕ → Option (List ℕ)
 meant_from escaped [] = None
 meant_from true (byte ∷ bytes) = after_first (escape_of byte) (meant_from false bytes)
@@ -35,7 +35,8 @@ meant_from false (byte ∷ bytes) =
 -- bytes that one store may have: 1 to 64
 abbrev pub storable : Option (List ℕ) → Option (List ℕ)
 storable None = None
-storable (Some bytes) = if nat_le 1 (length bytes) && nat_le (length bytes) 64 then Some bytes else None
+storable (Some bytes) =
+    if nat_le 1 (length bytes) && nat_le (length bytes) 64 then Some bytes else None
 
 -- the bytes that a string means after its first `"`
 abbrev pub meant : List ℕ → Option (List ℕ)

@@ -1,5 +1,6 @@
--- The words of a line that a person wrote. Spaces and tabs separate them, `#` outside of a string begins a comment, and a word that begins with
--- `"` goes on at least to the next `"` that no `\` escapes.
+-- The words of a line that a person wrote. Spaces and tabs separate them, `#` outside of a string
+-- begins a comment, and a word that begins with `"` goes on at least to the next `"` that no `\`
+-- escapes.
 use Rattle.std.specs.Prelude.{ℕ, ◌+◌, ◌-◌, Bool, true, false, not, ◌&&◌, ◌||◌, List, [], ◌∷◌, nat_eq, slice_range, if◌then◌else◌}
 use Rattle.tx_translate.specs.declared.reading.Reading.{Reading}
 use Rattle.tx_translate.specs.declared.reading.Reading.TheVariants.{Between, InWord, InString, AfterBackslash, InComment}
@@ -9,15 +10,21 @@ use Rattle.tx_translate.specs.declared.words.Word.{Word}
 abbrev pub is_blank : ℕ → Bool
 is_blank byte = nat_eq byte 32 || nat_eq byte 9
 
--- the state of reading after a byte that follows no word, after one that follows a byte of a word, and after one in a string
+-- the state of reading after a byte that follows no word, after one that follows a byte of a word,
+-- and after one in a string
 abbrev pub after_blank : ℕ → Reading
-after_blank byte = if is_blank byte then Between else if nat_eq byte 35 then InComment else if nat_eq byte 34 then InString else InWord
+after_blank byte =
+    if is_blank byte
+    then Between else if nat_eq byte 35 then InComment else if nat_eq byte 34 then InString
+    else InWord
 
 abbrev pub after_word_byte : ℕ → Reading
-after_word_byte byte = if is_blank byte then Between else if nat_eq byte 35 then InComment else InWord
+after_word_byte byte =
+    if is_blank byte then Between else if nat_eq byte 35 then InComment else InWord
 
 abbrev pub after_string_byte : ℕ → Reading
-after_string_byte byte = if nat_eq byte 34 then InWord else if nat_eq byte 92 then AfterBackslash else InString
+after_string_byte byte =
+    if nat_eq byte 34 then InWord else if nat_eq byte 92 then AfterBackslash else InString
 
 -- the state of reading after one byte more
 abbrev pub reading_after : Reading → ℕ → Reading
@@ -39,18 +46,23 @@ is_inside InComment = false
 abbrev pub word_from : Reading → List ℕ → List ℕ
 word_from reading [] = []
 word_from reading (byte ∷ bytes) =
-    if is_inside (reading_after reading byte) then byte ∷ word_from (reading_after reading byte) bytes else []
+    if is_inside (reading_after reading byte)
+    then byte ∷ word_from (reading_after reading byte) bytes
+    else []
 
 -- and the bytes from there on
 abbrev pub rest_from : Reading → List ℕ → List ℕ
 rest_from reading [] = []
 rest_from reading (byte ∷ bytes) =
-    if is_inside (reading_after reading byte) then rest_from (reading_after reading byte) bytes else byte ∷ bytes
+    if is_inside (reading_after reading byte)
+    then rest_from (reading_after reading byte) bytes
+    else byte ∷ bytes
 
 -- what is left of a line from its next word on
 abbrev pub next_from : List ℕ → List ℕ
 next_from [] = []
-next_from (byte ∷ bytes) = if nat_eq byte 35 then [] else if is_blank byte then next_from bytes else byte ∷ bytes
+next_from (byte ∷ bytes) =
+    if nat_eq byte 35 then [] else if is_blank byte then next_from bytes else byte ∷ bytes
 
 -- whether a word begins with the byte that led from there to there
 abbrev pub begins : Reading → Reading → Bool

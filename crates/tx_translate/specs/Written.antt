@@ -1,4 +1,5 @@
--- What the author of a schedule of version 3 wrote besides what it means: the lines of its steps, and the names of processes.
+-- What the author of a schedule of version 3 wrote besides what it means: the lines of its steps,
+-- and the names of processes.
 use Rattle.std.specs.Prelude.{ℕ, ◌-◌, List, [], ◌∷◌, ◌++◌, fold, length, map, Option, Some, None, if◌then◌else◌}
 use Rattle.tx_translate.specs.Names.{naming_of}
 use Rattle.tx_translate.specs.OwnLines.{own_lines}
@@ -29,7 +30,8 @@ name_after lines named = record { position = length lines - 1; process = named.0
 -- with a line more that has a word: it gives a name, or is kept
 abbrev pub noted_as : Notes → List ℕ → Option (ℕ × List ℕ) → Notes
 noted_as notes line None = record notes { lines = notes.lines ++ line ∷ [] }
-noted_as notes line (Some named) = record notes { names = notes.names ++ name_after notes.lines named ∷ [] }
+noted_as notes line (Some named) =
+    record notes { names = notes.names ++ name_after notes.lines named ∷ [] }
 
 -- with a line of those words more
 abbrev pub noted_by : Notes → List ℕ → List (List ℕ) → Notes
@@ -45,7 +47,16 @@ notes_of text = if is_third text then fold noted no_notes (own_lines text) else 
 
 -- the same, as it is kept
 abbrev pub name_at : Named → NameAt
-name_at named = record { position = named.position; process = named.naming.process.0; name = named.naming.name.now }
+name_at named =
+    record {
+      position = named.position;
+      process = named.naming.process.0;
+      name = named.naming.name.now;
+    }
 
 abbrev pub notes_as : Written → Notes
-notes_as written = record { lines = map (λ line. line.now) written.lines.items; names = map name_at written.names.items }
+notes_as written =
+    record {
+      lines = map (λ line. line.now) written.lines.items;
+      names = map name_at written.names.items;
+    }

@@ -1,5 +1,5 @@
--- A kernel that keeps for each live transaction a log of old parts, and beside it what would be pending at its starter after an abort. Own
--- rules.
+-- A kernel that keeps for each live transaction a log of old parts, and beside it what would be
+-- pending at its starter after an abort. Own rules.
 use Rattle.std.specs.Prelude.{◌≡◌, ℕ, Bool, true, false, List, [], ◌∷◌, length, Option, Some, None, is_some, if◌then◌else◌, ◌==◌}
 use Rattle.tx_change.specs.Exchange.{object_of}
 use Rattle.tx_change.specs.States.{changed_by}
@@ -72,7 +72,8 @@ two_states_of c = record { now = c.now; kept = kept_of c; owner = c.owner; table
 -- whether a change of the list is of the object
 unfoldable pub is_named : Object → List Change → Bool
 is_named o [] = false
-is_named o (change ∷ changes) = if same_object o (object_of change) then true else is_named o changes
+is_named o (change ∷ changes) =
+    if same_object o (object_of change) then true else is_named o changes
 
 -- nothing is held where no transaction is live
 abbrev pub OthersHoldNothing : LogKernel → Type 0
@@ -83,17 +84,21 @@ pub record IsKept (c : LogKernel) : Type 0 where
   -- the live transactions are those of the table
   pub live : (s : ℕ) → is_some (c.txns s) ≡ is_live c.table s
   -- its transaction owns what a log names
-  pub named : (s : ℕ) (t : Txn) → c.txns s ≡ Some t → (o : Object) → is_named o t.log ≡ true → c.owner o ≡ Some s
+  pub named : (s : ℕ) (t : Txn) → c.txns s ≡ Some t → (o : Object) → is_named o t.log ≡ true
+      → c.owner o ≡ Some s
   -- without its transaction, a starter would run with the ids that are kept
-  pub starter : (s : ℕ) (t : Txn) → c.txns s ≡ Some t → face_of ((kept_of c).procs s) ≡ Some (running t.ids)
+  pub starter : (s : ℕ) (t : Txn) → c.txns s ≡ Some t
+      → face_of ((kept_of c).procs s) ≡ Some (running t.ids)
   pub empty : OthersHoldNothing c
   pub sound : IsSound (states_view (two_states_of c))
 
 -- the content at the start: no transaction is live
 abbrev pub start_content : State → LogKernel
-start_content S = record { now = S; txns = λ s. None; owner = λ o. None; table = empty_table S.width }
+start_content S =
+    record { now = S; txns = λ s. None; owner = λ o. None; table = empty_table S.width }
 
--- whether a send of the event to the starter s of the transaction is answered differently now than after an abort
+-- whether a send of the event to the starter s of the transaction is answered differently now than
+-- after an abort
 abbrev pub starter_differs : LogKernel → Event → ℕ → Txn → Bool
 starter_differs c ev s t =
     faces_differ s (effect ev c.now).sends
@@ -104,4 +109,6 @@ starter_differs c ev s t =
 abbrev pub stands_in_way : LogKernel → Event → ℕ → Option Txn → Bool
 stands_in_way c ev s None = false
 stands_in_way c ev s (Some t) =
-    if is_member_of c.table s (actor ev) then false else (if owns_named (two_states_of c) ev s then true else starter_differs c ev s t)
+    if is_member_of c.table s (actor ev)
+    then false
+    else (if owns_named (two_states_of c) ev s then true else starter_differs c ev s t)

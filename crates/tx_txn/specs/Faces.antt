@@ -34,19 +34,26 @@ is_quiet_at m face = m.signo == 0 || (m.target == 1 || face.ended)
 abbrev pub pending_after : Sending → Option Face → PendingView → PendingView
 pending_after m None view = view
 pending_after m (Some face) view =
-    if may_signal m.from face.ids then (if is_quiet_at m face then view else pending_of (with_signal m (alone view))) else view
+    if may_signal m.from face.ids
+    then (if is_quiet_at m face then view else pending_of (with_signal m (alone view)))
+    else view
 
 -- what is pending at process s after these sends
 unfoldable pub pending_by : ℕ → List Sending → Option Face → PendingView → PendingView
 pending_by s [] face view = view
-pending_by s (m ∷ ms) face view = pending_by s ms face (if m.target == s then pending_after m face view else view)
+pending_by s (m ∷ ms) face view =
+    pending_by s ms face (if m.target == s then pending_after m face view else view)
 
 -- the answer of a post with this many queued
 abbrev pub answer_at : Sending → Option Face → ℕ → ℤ
 answer_at m None queued = negsuc 2
 answer_at m (Some face) queued =
     if may_signal m.from face.ids
-    then (if is_quiet_at m face then pos 0 else (if is_realtime m.signo then (if nat_lt queued QUEUED then pos 0 else negsuc 10) else pos 0))
+    then (if is_quiet_at m face
+    then pos 0
+    else (if is_realtime m.signo
+    then (if nat_lt queued QUEUED then pos 0 else negsuc 10)
+    else pos 0))
     else negsuc 0
 
 -- how many are queued after a post
@@ -54,16 +61,21 @@ abbrev pub queued_after : Sending → Option Face → ℕ → ℕ
 queued_after m None queued = queued
 queued_after m (Some face) queued =
     if may_signal m.from face.ids
-    then (if is_quiet_at m face then queued else (if is_realtime m.signo then (if nat_lt queued QUEUED then queued + 1 else queued) else queued))
+    then (if is_quiet_at m face
+    then queued
+    else (if is_realtime m.signo
+    then (if nat_lt queued QUEUED then queued + 1 else queued)
+    else queued))
     else queued
 
--- whether a send to process s is answered differently at the two faces, one send after another, each face with its own count of what is
--- queued
+-- whether a send to process s is answered differently at the two faces, one send after another,
+-- each face with its own count of what is queued
 unfoldable pub faces_differ : ℕ → List Sending → Option Face → ℕ → Option Face → ℕ → Bool
 faces_differ s [] one first other second = false
 faces_differ s (m ∷ ms) one first other second =
+    let same = int_eq (answer_at m one first) (answer_at m other second) in
+    let first_next = queued_after m one first in
+    let second_next = queued_after m other second in
     if m.target == s
-    then (if int_eq (answer_at m one first) (answer_at m other second)
-    then faces_differ s ms one (queued_after m one first) other (queued_after m other second)
-    else true)
+    then (if same then faces_differ s ms one first_next other second_next else true)
     else faces_differ s ms one first other second

@@ -13,15 +13,23 @@ use Rattle.tx_txn.specs.declared.kept.Unpost.TheVariants.{Standard, Queued}
 
 -- a process as it is kept: it runs, with these ids, and this is pending at it
 abbrev pub kept_as : Kept → Process → Process
-kept_as kept me = record me { ids = ids_of kept.ids; status = None; pending = kept.pending.standard; queued = kept.pending.queued }
+kept_as kept me =
+    record me {
+      ids = ids_of kept.ids;
+      status = None;
+      pending = kept.pending.standard;
+      queued = kept.pending.queued;
+    }
 
 -- what was pending before a post
 abbrev pub unposted : Option Unpost → PendingView → PendingView
 unposted None pending = pending
 unposted (Some (Standard set)) pending = record pending { standard = bits_of set }
-unposted (Some (Queued place)) pending = record pending { queued = entry_swapped place None pending.queued }
+unposted (Some (Queued place)) pending =
+    record pending { queued = entry_swapped place None pending.queued }
 
 -- what is pending after a post that was taken back is made again
 abbrev pub posted_again : Repost → PendingView → PendingView
 posted_again (repost.Standard set) pending = record pending { standard = bits_of set }
-posted_again (repost.Queued place entry) pending = record pending { queued = entry_swapped place entry pending.queued }
+posted_again (repost.Queued place entry) pending =
+    record pending { queued = entry_swapped place entry pending.queued }

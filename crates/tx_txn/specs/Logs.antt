@@ -18,7 +18,10 @@ with_pending_in pending slot = option_map (with_pending pending) slot
 
 -- the parts with this pending at process s
 abbrev pub with_pending_at : ℕ → PendingView → Parts → Parts
-with_pending_at s pending parts = record parts { procs = with_slot parts.procs s (with_pending_in pending (slot_at parts.procs s)) }
+with_pending_at s pending parts =
+    record parts {
+      procs = with_slot parts.procs s (with_pending_in pending (slot_at parts.procs s));
+    }
 
 -- what is pending at process s, or else this
 abbrev pub pending_or : PendingView → Option Proc → PendingView

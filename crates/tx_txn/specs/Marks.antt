@@ -11,7 +11,8 @@ use Rattle.tx_txn.specs.declared.members.Members.{Members}
 
 -- all members of the transaction of s are among the objects
 abbrev pub IsCovered : ℕ → List (Option Mark) → Objects → Type 0
-IsCovered s marks objects = (n : ℕ) → is_of s (slot_at marks n) ≡ true → is_in objects (Proc n) ≡ true
+IsCovered s marks objects =
+    (n : ℕ) → is_of s (slot_at marks n) ≡ true → is_in objects (Proc n) ≡ true
 
 -- whether the mark is of a member of the transaction of s whose part has ended
 abbrev pub ended_of : ℕ → Option Mark → Bool
@@ -20,7 +21,8 @@ ended_of s (Some m) = if m.starter.0 == s then m.ended else false
 
 -- the mark that the member n had
 abbrev pub mark_of : Pid → Members → ℕ → Bool → Mark
-mark_of starter members n defers = record { starter = starter; ended = is_in members.ended (Proc n); defers = defers }
+mark_of starter members n defers =
+    record { starter = starter; ended = is_in members.ended (Proc n); defers = defers }
 
 -- the table of these marks
 abbrev pub table_at : List (Option Mark) → Table

@@ -17,10 +17,12 @@ unmade = record { answer = Ok tt; change = None; kept = None }
 -- for a signal and how its post was answered: one more that was not delivered, if that was an error
 abbrev pub with_missed : Sending → Result (Unit {0}) Errno → List Missed → List Missed
 with_missed sending (Ok _) rest = rest
-with_missed sending (Err errno) rest = record { target = sending.target; signo = sending.signo; errno = errno } ∷ rest
+with_missed sending (Err errno) rest =
+    record { target = sending.target; signo = sending.signo; errno = errno } ∷ rest
 
 -- the signals whose posts were answered by an error, in order
 abbrev pub missed_in : List Sending → List HeldPost → List Missed
 missed_in [] posts = []
 missed_in (sending ∷ sendings) [] = []
-missed_in (sending ∷ sendings) (post ∷ posts) = with_missed sending post.answer (missed_in sendings posts)
+missed_in (sending ∷ sendings) (post ∷ posts) =
+    with_missed sending post.answer (missed_in sendings posts)

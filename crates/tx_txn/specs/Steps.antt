@@ -1,4 +1,5 @@
--- What a step makes of the content, by its role. Of the kept side it reads only what is pending at starters, and their ids. Own rules.
+-- What a step makes of the content, by its role. Of the kept side it reads only what is pending at
+-- starters, and their ids. Own rules.
 use Rattle.std.specs.Prelude.{◌≡◌, ℕ, true, List, [], ◌++◌, Option, Some, None, if◌then◌else◌, ◌==◌}
 use Rattle.tx_change.specs.States.{changed_by}
 use Rattle.tx_change.specs.declared.change.Change.{Change}
@@ -19,15 +20,17 @@ ids_in (Some q) = q.ids
 -- the transaction of s, with these sends posted
 abbrev pub posted : ℕ → List Sending → Option Txn → Option Txn
 posted s ms None = None
-posted s ms (Some t) = Some (record t { pending = pending_by s ms (Some (running t.ids)) t.pending })
+posted s ms (Some t) =
+    Some (record t { pending = pending_by s ms (Some (running t.ids)) t.pending })
 
--- the records of a step come before those of the steps before it; a transaction begins with what is pending at its starter, and with its
--- ids
+-- the records of a step come before those of the steps before it; a transaction begins with what is
+-- pending at its starter, and with its ids
 abbrev pub logged : List Change → Option Process → Option Txn → Option Txn
 logged new q None = Some (record { log = new; pending = pending_in q; ids = ids_in q })
 logged new q (Some t) = Some (record t { log = new ++ t.log })
 
--- the content after a step of process p in this role; a step inside a transaction logs these changes
+-- the content after a step of process p in this role; a step inside a transaction logs these
+-- changes
 unfoldable pub next_content : Role → Event → ℕ → List Change → LogKernel → LogKernel
 next_content Outside ev p new c = record {
   now = made ev c.now c.now;
@@ -38,7 +41,11 @@ next_content Outside ev p new c = record {
 next_content (Within s progress) ev p new c = record {
   now = made ev c.now c.now;
   txns = put_at c.txns s (logged new (c.now.procs s) (c.txns s));
-  owner = λ o. if has_object o (objects_reserved progress s (event_footprint c.table ev c.now)) then Some s else c.owner o;
+  owner =
+      λ o.
+      if has_object o (objects_reserved progress s (event_footprint c.table ev c.now))
+      then Some s
+      else c.owner o;
   table = table_after (Within s progress) p c.table;
 }
 next_content (Commits s) ev p new c = record {
@@ -56,13 +63,16 @@ next_content (Aborts s status) ev p new c = record {
 
 -- the two states are the same at the object, except what is pending at process s and what s holds
 abbrev pub AgreeBut : ℕ → State → State → Object → Type 0
-AgreeBut s S R (Proc n) = overlay_if (n == s) (pending_in None) (S.procs n) ≡ overlay_if (n == s) (pending_in None) (R.procs n)
+AgreeBut s S R (Proc n) =
+    overlay_if (n == s) (pending_in None) (S.procs n)
+    ≡ overlay_if (n == s) (pending_in None) (R.procs n)
 AgreeBut s S R (Desc n) = S.descs n ≡ R.descs n
 AgreeBut s S R (Pipe n) = S.pipes n ≡ R.pipes n
 AgreeBut s S R (Held n) = (if n == s then [] else S.held n) ≡ (if n == s then [] else R.held n)
 
 -- the records of a step inside the transaction of s lead its state back
-pub record LeadsBack (s : ℕ) (objects : List Object) (new : List Change) (after before : State) : Type 0 where
+pub record LeadsBack (s : ℕ) (objects : List Object) (new : List Change) (after before : State)
+    : Type 0 where
   -- they are of objects that the step reserves
   pub named : (o : Object) → is_named o new ≡ true → has_object o objects ≡ true
   pub back : (o : Object) → AgreeBut s (changed_by new after) before o
@@ -70,7 +80,9 @@ pub record LeadsBack (s : ℕ) (objects : List Object) (new : List Change) (afte
 -- what a role requires of the records
 abbrev pub Logs : Role → Event → List Change → LogKernel → Type 0
 Logs Outside ev new c = Unit {0}
-Logs (Within s progress) ev new c = LeadsBack s (objects_reserved progress s (event_footprint c.table ev c.now)) new (made ev c.now c.now) c.now
+Logs (Within s progress) ev new c =
+    LeadsBack s (objects_reserved progress s (event_footprint c.table ev c.now)) new
+    (made ev c.now c.now) c.now
 Logs (Commits s) ev new c = Unit {0}
 Logs (Aborts s status) ev new c = Unit {0}
 

@@ -18,8 +18,14 @@ none_held = record { sendings = []; posts = [] }
 
 -- what a step of a member is made inside, with these marks
 abbrev pub inside_at : Txn → List (Option Mark) → Inside
-inside_at txn marks = record { starter = txn.starter.0; members = λ n. is_of txn.starter.0 (slot_at marks n); defers = txn.defers }
+inside_at txn marks =
+    record {
+      starter = txn.starter.0;
+      members = λ n. is_of txn.starter.0 (slot_at marks n);
+      defers = txn.defers;
+    }
 
 -- these objects are the starter's
 abbrev pub Owns : ℕ → List (Option Pid) → Objects → Type 0
-Owns starter owners objects = (o : Object) → is_in objects o ≡ true → owner_of owners o ≡ Some starter
+Owns starter owners objects =
+    (o : Object) → is_in objects o ≡ true → owner_of owners o ≡ Some starter

@@ -51,7 +51,8 @@ is_sought S (Desc d) name = names_desc d.0 name
 
 -- descriptor f of process p, where what it names is sought
 abbrev pub holder_at : (Option ℕ → Bool) → State → ℕ → ℕ → List Holder
-holder_at sought S p f = if sought (named_by f (S.procs p)) then record { process = p; descriptor = f } ∷ [] else []
+holder_at sought S p f =
+    if sought (named_by f (S.procs p)) then record { process = p; descriptor = f } ∷ [] else []
 
 -- all such descriptors of a process, and of all processes
 abbrev pub holders_in : (Option ℕ → Bool) → State → ℕ → List Holder
@@ -77,7 +78,10 @@ other_side step = None
 module _ (V : View) (step : Step) where
   -- who has that side of pipe k open, if the step names it
   abbrev pub named_holders : Side → ℕ → List Holder
-  named_holders side k = if has_object (object_in Pipes k) (footprint V.table step (present V)) then holders (present V) side k else []
+  named_holders side k =
+      if has_object (object_in Pipes k) (footprint V.table step (present V))
+      then holders (present V) side k
+      else []
 
   abbrev pub side_holders : Side → List Holder
   side_holders side = each_below (named_holders side) (limit_of Pipes)

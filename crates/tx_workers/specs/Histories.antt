@@ -11,18 +11,22 @@ use Rattle.tx_workers.specs.Turns.{turn_adds}
 abbrev pub view_after : State → List Entry → View
 view_after start entries = view start (history_of entries)
 
--- the entry is what the turn of a process adds on the view of those before it: the step that the program names for it, or the abort of its doomed
--- transaction
-pub record IsNamed (instructions : List Instruction) (start : State) (before : List Entry) (entry : Entry) : Type 0 where
+-- the entry is what the turn of a process adds on the view of those before it: the step that the
+-- program names for it, or the abort of its doomed transaction
+pub record IsNamed (instructions : List Instruction) (start : State) (before : List Entry)
+    (entry : Entry) : Type 0 where
   pub process : ℕ
   pub adds : turn_adds instructions (view_after start before) entry.worker process ≡ entry ∷ []
 
 -- so is each of some entries, after those before it
 abbrev pub AllNamed : List Instruction → State → List Entry → List Entry → Type 0
 AllNamed instructions start before [] = Unit {0}
-AllNamed instructions start before (entry ∷ entries) = IsNamed instructions start before entry × AllNamed instructions start (before ++ entry ∷ []) entries
+AllNamed instructions start before (entry ∷ entries) =
+    IsNamed instructions start before entry
+    × AllNamed instructions start (before ++ entry ∷ []) entries
 
 -- the same, of each entry at its place
 abbrev pub EachNamed : List Instruction → State → List Entry → List Entry → Type 0
 EachNamed instructions start given added =
-    (before : List Entry) (entry : Entry) (after : List Entry) → added ≡ before ++ entry ∷ after → IsNamed instructions start (given ++ before) entry
+    (before : List Entry) (entry : Entry) (after : List Entry) → added ≡ before ++ entry ∷ after
+    → IsNamed instructions start (given ++ before) entry

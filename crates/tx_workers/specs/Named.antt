@@ -26,7 +26,8 @@ fork_of child = Fork (record { 0 = child })
 abbrev pub pipe_of : Option ℕ → Option (ℕ × ℕ) → Option Call
 pipe_of None descs = None
 pipe_of (Some pipe) None = None
-pipe_of (Some pipe) (Some descs) = Some (Pipe (record { 0 = pipe }) (record { 0 = descs.0 }) (record { 0 = descs.1 }))
+pipe_of (Some pipe) (Some descs) =
+    Some (Pipe (record { 0 = pipe }) (record { 0 = descs.0 }) (record { 0 = descs.1 }))
 
 -- a call with the numbers that it chooses, the least that are free; nothing where none is
 abbrev pub chosen : Free → Call → Option Call
@@ -34,7 +35,8 @@ chosen free (Fork child) = option_map fork_of free.proc
 chosen free (Pipe pipe read write) = pipe_of free.pipe free.descs
 chosen free call = Some call
 
--- the call of process p with those registers, by the instruction at its point; past the last one it exits, but for process 1
+-- the call of process p with those registers, by the instruction at its point; past the last one it
+-- exits, but for process 1
 abbrev pub instructed : View → ℕ → Regs → Option Instruction → Option Call
 instructed V p regs (Some instruction) = chosen (free_numbers V p) (filled regs.slots instruction)
 instructed V p regs None = if p == 1 then None else Some (Exit (pos 0))
@@ -49,7 +51,8 @@ step_of p None (Some call) = Some (Calls (record { 0 = p }) call)
 abbrev pub named_for : List Instruction → View → ℕ → Option Process → Option Step
 named_for instructions V p None = None
 named_for instructions V p (Some me) =
-    step_of p (offered (inside_by V.table (V.table.marks p)) me) (instructed V p me.registers (slice_get instructions me.registers.point))
+    step_of p (offered (inside_by V.table (V.table.marks p)) me)
+    (instructed V p me.registers (slice_get instructions me.registers.point))
 
 abbrev pub named : List Instruction → View → ℕ → Option Step
 named instructions V p = named_for instructions V p (running ((present V).procs p))

@@ -9,7 +9,8 @@ use Rattle.tx_model.specs.Effects.{Inside}
 use Rattle.tx_model.specs.SignalSets.{kill_signo, realtime_signals, standard_signals}
 use Rattle.tx_model.specs.State.{Process}
 
--- the signals in the order in which turns deliver them: SIGKILL, the standard ones, the realtime ones
+-- the signals in the order in which turns deliver them: SIGKILL, the standard ones, the realtime
+-- ones
 abbrev pub in_order : List ℕ
 in_order = kill_signo ∷ (standard_signals ++ realtime_signals)
 
@@ -24,7 +25,9 @@ is_passed_over me signo = is_full me && is_catch (action_at signo me)
 
 -- whether a turn may deliver the signal
 abbrev pub is_offered : Option Inside → Process → ℕ → Bool
-is_offered inside me signo = is_some (delivered_value signo me) && (not (is_deferred inside signo) && not (is_passed_over me signo))
+is_offered inside me signo =
+    is_some (delivered_value signo me)
+    && (not (is_deferred inside signo) && not (is_passed_over me signo))
 
 -- the signal that a turn delivers to a process that is inside that transaction, if it delivers one
 abbrev pub offered : Option Inside → Process → Option ℕ

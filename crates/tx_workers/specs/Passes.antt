@@ -19,7 +19,8 @@ pub record Grows (added : List Entry) (old new : SessionState) : Type 0 where
   pub at_end : IsAtEnd new
 
 -- entries were added, and noted by the worker whose last process is now that one
-pub record Adds (added : List Entry) (latest : ℕ) (old : SessionState) (worker : Worker) (new : SessionState) (after : Worker) : Type 0 where
+pub record Adds (added : List Entry) (latest : ℕ) (old : SessionState) (worker : Worker)
+    (new : SessionState) (after : Worker) : Type 0 where
   pub entries : new.entries ≡ old.entries ++ added
   pub boot : SameBoot new old
   pub at_end : IsAtEnd new

@@ -18,7 +18,11 @@ use Rattle.tx_state_text.specs.State.{state_text}
 
 -- the line of a step that a worker made: its number, the worker, the step and its reply
 abbrev pub run_line : ℕ → ℕ → Step → Reply → List ℕ
-run_line number worker step reply = decimal number ++ (codes " w" ++ (decimal worker ++ (32 ∷ (step_text step ++ (codes " : " ++ (reply_text reply ++ 10 ∷ []))))))
+run_line number worker step reply =
+    decimal number
+    ++ (codes " w"
+    ++ (decimal worker
+    ++ (32 ∷ (step_text step ++ (codes " : " ++ (reply_text reply ++ 10 ∷ []))))))
 
 -- the line of an entry
 abbrev pub entry_line : ℕ → Entry → List ℕ
@@ -31,9 +35,12 @@ numbered line number (x ∷ xs) = line number x ++ numbered line (number + 1) xs
 
 -- the whole text: the lines of all entries, and the state at the position
 abbrev pub run_text : SessionState → List ℕ
-run_text k = numbered entry_line 1 k.entries ++ state_text (view (start_of k) (history_of (made_of k)))
+run_text k =
+    numbered entry_line 1 k.entries ++ state_text (view (start_of k) (history_of (made_of k)))
 
 -- a text is written; or a front of it, and the sink is at fault; or nothing, for want of memory
-abbrev pub WritesText : Option (List ℕ) → Counts → List ℕ → Result (Unit {0}) Fault → Option (List ℕ) → Counts → Type 0
+abbrev pub WritesText : Option (List ℕ) → Counts → List ℕ → Result (Unit {0}) Fault
+    → Option (List ℕ) → Counts → Type 0
 WritesText written counts text (Err NoMemory) written' counts' = Keeps written written'
-WritesText written counts text result written' counts' = WritesWhole written counts text result written' counts'
+WritesText written counts text result written' counts' =
+    WritesWhole written counts text result written' counts'

@@ -12,7 +12,8 @@ use Rattle.tx_workers.specs.declared.worker.Worker.{Worker}
 -- before it: as many as the workers noted. There are as many workers as were asked for, numbered
 -- from 1, each with no more than one step a turn; and each noted exactly the added entries of its
 -- number, in their order
-pub record IsWorked (program : Program) (given : SessionState) (count turns : ℕ) (session : SessionState) (workers : List Worker) : Type 0 where
+pub record IsWorked (program : Program) (given : SessionState) (count turns : ℕ)
+    (session : SessionState) (workers : List Worker) : Type 0 where
   pub added : List Entry
   pub grown : session.entries ≡ given.entries ++ added
   pub boot : SameBoot session given
@@ -25,7 +26,8 @@ pub record IsWorked (program : Program) (given : SessionState) (count turns : �
 
 -- the same before notes are made: each worker kept exactly the places of the added entries of its
 -- number, in their order
-pub record IsOutcome (program : Program) (given : SessionState) (count turns : ℕ) (session : SessionState) (runners : List Runner) : Type 0 where
+pub record IsOutcome (program : Program) (given : SessionState) (count turns : ℕ)
+    (session : SessionState) (runners : List Runner) : Type 0 where
   pub added : List Entry
   pub grown : session.entries ≡ given.entries ++ added
   pub boot : SameBoot session given
@@ -34,7 +36,9 @@ pub record IsOutcome (program : Program) (given : SessionState) (count turns : �
   pub counted : length added ≡ made runners
   pub count_is : length runners ≡ count
   pub crew : AreRunners 1 turns runners
-  pub places : All (λ runner. runner.made.items ≡ places_of runner.number (length given.entries) added) runners
+  pub places :
+      All (λ runner. runner.made.items ≡ places_of runner.number (length given.entries) added)
+      runners
 
 -- the workers that those were, each with exactly the notes of the entries of its number, in their
 -- order
@@ -42,4 +46,7 @@ abbrev pub AreNoted : List Entry → List Runner → List Worker → Type 0
 AreNoted added [] [] = Unit {0}
 AreNoted added [] (worker ∷ workers) = ⊥
 AreNoted added (runner ∷ runners) [] = ⊥
-AreNoted added (runner ∷ runners) (worker ∷ workers) = (worker.number ≡ runner.number) × (worker.notes.items ≡ notes_of runner.number added) × AreNoted added runners workers
+AreNoted added (runner ∷ runners) (worker ∷ workers) =
+    (worker.number ≡ runner.number)
+    × (worker.notes.items ≡ notes_of runner.number added)
+    × AreNoted added runners workers

@@ -13,7 +13,8 @@ most_taken = 2 ^ 40
 
 -- a worker of that number: it put back each process number that it took, and it took at least one
 -- for each entry that it made
-pub record IsService (number turns : ℕ) (runner : Runner) (parts amount : ℕ) (held : Hand) : Type 0 where
+pub record IsService (number turns : ℕ) (runner : Runner) (parts amount : ℕ) (held : Hand)
+    : Type 0 where
   pub work : IsWorkOf number turns runner parts amount
   pub part : held.parts ≡ 1
   pub back : GivesBack held
@@ -23,7 +24,8 @@ pub record IsService (number turns : ℕ) (runner : Runner) (parts amount : ℕ)
 
 -- so many of a run's workers, with their stations in one: each of so many process numbers was put
 -- once more than it was taken, and at least one number was taken for each entry that was made
-pub record IsCrewOf (count turns total processes : ℕ) (runners : List Runner) (shares amount : ℕ) (held : Hand) : Type 0 where
+pub record IsCrewOf (count turns total processes : ℕ) (runners : List Runner) (shares amount : ℕ)
+    (held : Hand) : Type 0 where
   pub team : IsTeam count turns runners shares amount
   pub parts : held.parts + total ≡ 65536 + count
   pub each : HoldsEach processes held
@@ -35,6 +37,8 @@ pub record IsCrewOf (count turns total processes : ℕ) (runners : List Runner) 
 -- each number that a process may have is left once and no other is, and at least one number was
 -- taken for each of so many steps
 pub record IsTallied (processes steps : ℕ) (tally : Tally) : Type 0 where
-  pub adds_up : (place : ℕ) → place < 256 → slice_index tally.pushed place ≡ slice_index tally.popped place + slice_index tally.left place
+  pub adds_up : (place : ℕ) → place < 256
+      → slice_index tally.pushed place
+      ≡ slice_index tally.popped place + slice_index tally.left place
   pub left : LeavesEach processes tally
   pub enough : steps ≤ sum tally.popped

@@ -14,7 +14,8 @@ noted_if false entry notes = notes
 -- the steps and replies of the entries of the worker of that number
 abbrev pub notes_of : ℕ → List Entry → List Accepted
 notes_of number [] = []
-notes_of number (entry ∷ entries) = noted_if (entry.worker == number) entry (notes_of number entries)
+notes_of number (entry ∷ entries) =
+    noted_if (entry.worker == number) entry (notes_of number entries)
 
 -- the place of an entry before others, if it is the worker's
 abbrev pub placed_if : Bool → ℕ → List ℕ → List ℕ
@@ -24,19 +25,22 @@ placed_if false place places = places
 -- the places of the entries of the worker of that number, of which the first entry has that place
 abbrev pub places_of : ℕ → ℕ → List Entry → List ℕ
 places_of number place [] = []
-places_of number place (entry ∷ entries) = placed_if (entry.worker == number) place (places_of number (place + 1) entries)
+places_of number place (entry ∷ entries) =
+    placed_if (entry.worker == number) place (places_of number (place + 1) entries)
 
 -- the workers of the numbers from that one on, each with no more than one step a turn
 abbrev pub IsCrew : ℕ → ℕ → List Worker → Type 0
 IsCrew number turns [] = Unit {0}
-IsCrew number turns (worker ∷ workers) = (worker.number ≡ number) × (vec_len worker.notes ≤ turns) × IsCrew (number + 1) turns workers
+IsCrew number turns (worker ∷ workers) =
+    (worker.number ≡ number) × (vec_len worker.notes ≤ turns) × IsCrew (number + 1) turns workers
 
 -- how many steps they noted
 abbrev pub noted : List Worker → ℕ
 noted [] = 0
 noted (worker ∷ workers) = vec_len worker.notes + noted workers
 
--- a worker of that number in a run, which made no more than one entry a turn; its share counts what it made
+-- a worker of that number in a run, which made no more than one entry a turn; its share counts what
+-- it made
 pub record IsWorkOf (number turns : ℕ) (runner : Runner) (parts amount : ℕ) : Type 0 where
   pub number_is : runner.number ≡ number
   pub few : vec_len runner.made ≤ turns
@@ -46,7 +50,8 @@ pub record IsWorkOf (number turns : ℕ) (runner : Runner) (parts amount : ℕ) 
 -- such workers of the numbers from that one on
 abbrev pub AreRunners : ℕ → ℕ → List Runner → Type 0
 AreRunners number turns [] = Unit {0}
-AreRunners number turns (runner ∷ runners) = (runner.number ≡ number) × (vec_len runner.made ≤ turns) × AreRunners (number + 1) turns runners
+AreRunners number turns (runner ∷ runners) =
+    (runner.number ≡ number) × (vec_len runner.made ≤ turns) × AreRunners (number + 1) turns runners
 
 -- how many entries they made
 abbrev pub made : List Runner → ℕ

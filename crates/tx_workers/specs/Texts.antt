@@ -25,7 +25,8 @@ pub record IsBooted (header : Header) (session : SessionState) : Type 0 where
 
 -- what was left to read means a program, and so many workers ran it from its start, each for at
 -- most so many turns
-pub record IsRunOf (left : Option (List ℕ)) (workers turns : ℕ) (session : SessionState) : Type 0 where
+pub record IsRunOf (left : Option (List ℕ)) (workers turns : ℕ) (session : SessionState)
+    : Type 0 where
   pub program : Program
   pub given : SessionState
   pub crew : List Worker
@@ -41,17 +42,31 @@ pub record IsLostRun (left : Option (List ℕ)) (workers : ℕ) (why : WorkFault
   pub thread : why ≡ Spawn → 0 < workers
 
 -- a program is read and run; or its text is at fault, or its source; or its run gave nothing back
-abbrev pub RunsFrom : Option (List ℕ) → Counts → ℕ → ℕ → Result SessionState RunFault → Counts → Type 0
-RunsFrom left reads workers turns (Ok session) reads' = IsRunOf left workers turns session × IsCalm reads reads'
-RunsFrom left reads workers turns (Err (Text why)) reads' = MeansProgramFrom left reads (Err why) reads'
-RunsFrom left reads workers turns (Err (Work why)) reads' = IsLostRun left workers why × IsCalm reads reads'
+abbrev pub RunsFrom : Option (List ℕ) → Counts → ℕ → ℕ → Result SessionState RunFault → Counts
+    → Type 0
+RunsFrom left reads workers turns (Ok session) reads' =
+    IsRunOf left workers turns session × IsCalm reads reads'
+RunsFrom left reads workers turns (Err (Text why)) reads' =
+    MeansProgramFrom left reads (Err why) reads'
+RunsFrom left reads workers turns (Err (Work why)) reads' =
+    IsLostRun left workers why × IsCalm reads reads'
 
 -- a program is read, and the report of its run is written, or a front of it, or nothing, as the
 -- fault says
-abbrev pub RunsText : (SessionState → List ℕ) → Option (List ℕ) → Counts → Option (List ℕ) → Counts → ℕ → ℕ → Result (Unit {0}) RunFault → Counts → Option (List ℕ) → Counts → Type 0
+abbrev pub RunsText : (SessionState → List ℕ) → Option (List ℕ) → Counts → Option (List ℕ) → Counts
+    → ℕ → ℕ → Result (Unit {0}) RunFault → Counts → Option (List ℕ) → Counts → Type 0
 RunsText report left reads written writes workers turns (Ok _) reads' written' writes' =
-    ((session : SessionState) × IsRunOf left workers turns session × Appends written written' (report session)) × IsCalm reads reads' × IsCalm writes writes'
-RunsText report left reads written writes workers turns (Err (Text fault.Writer)) reads' written' writes' =
-    (session : SessionState) × IsRunOf left workers turns session × WritesWhole written writes (report session) (Err fault.Writer) written' writes'
-RunsText report left reads written writes workers turns (Err (Text why)) reads' written' writes' = MeansProgramFrom left reads (Err why) reads' × Keeps written written'
-RunsText report left reads written writes workers turns (Err (Work why)) reads' written' writes' = IsLostRun left workers why × IsCalm reads reads' × Keeps written written'
+    ((session : SessionState)
+    × IsRunOf left workers turns session
+    × Appends written written' (report session))
+    × IsCalm reads reads'
+    × IsCalm writes writes'
+RunsText report left reads written writes workers turns (Err (Text fault.Writer)) reads' written'
+    writes' =
+    (session : SessionState)
+    × IsRunOf left workers turns session
+    × WritesWhole written writes (report session) (Err fault.Writer) written' writes'
+RunsText report left reads written writes workers turns (Err (Text why)) reads' written' writes' =
+    MeansProgramFrom left reads (Err why) reads' × Keeps written written'
+RunsText report left reads written writes workers turns (Err (Work why)) reads' written' writes' =
+    IsLostRun left workers why × IsCalm reads reads' × Keeps written written'

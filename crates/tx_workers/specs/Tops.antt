@@ -9,7 +9,8 @@ use Rattle.tx_model.specs.View.{View, present}
 
 -- no process above that number runs
 abbrev pub NoneRunsOver : ℕ → View → Type 0
-NoneRunsOver top V = (n : ℕ) → top < n → n ≤ V.table.width → is_running ((present V).procs n) ≡ false
+NoneRunsOver top V =
+    (n : ℕ) → top < n → n ≤ V.table.width → is_running ((present V).procs n) ≡ false
 
 -- the step makes no process above that number
 abbrev pub IsWithin : ℕ → Step → Type 0

@@ -23,9 +23,11 @@ entry_of worker step reply = record { step = step; worker = worker; reply = repl
 -- the kernel's abort of the transaction of which a process with that mark is a member
 abbrev pub abort_of : View → ℕ → Option Mark → List Entry
 abort_of V worker None = []
-abort_of V worker (Some mark) = entry_of worker (KernelAbort mark.starter) (answer V (KernelAbort mark.starter))
+abort_of V worker (Some mark) =
+    entry_of worker (KernelAbort mark.starter) (answer V (KernelAbort mark.starter))
 
--- what a step of process p adds, by its answer: where the transaction is doomed it is aborted instead
+-- what a step of process p adds, by its answer: where the transaction is doomed it is aborted
+-- instead
 abbrev pub adds_by : View → ℕ → ℕ → Step → Reply → List Entry
 adds_by V worker p step (No Doomed) = abort_of V worker (V.table.marks p)
 adds_by V worker p step reply = entry_of worker step reply

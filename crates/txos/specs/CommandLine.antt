@@ -41,15 +41,25 @@ shell_line = record (new_shape (codes "shell")) { rules = flag (codes "json") �
 
 -- the command that answers by JSON, with the two numbers of a run, of which both may be missing
 abbrev pub json_line : Shape
-json_line = record (new_shape (codes "json")) { rules = number_option (codes "workers") 16 ∷ number_option (codes "turns") 10000 ∷ [] }
+json_line =
+    record (new_shape (codes "json")) {
+      rules = number_option (codes "workers") 16 ∷ number_option (codes "turns") 10000 ∷ [];
+    }
 
--- the command that draws a schedule, with the first and the last step of an excerpt, of which both may be missing
+-- the command that draws a schedule, with the first and the last step of an excerpt, of which both
+-- may be missing
 abbrev pub picture_line : Shape
-picture_line = record (new_shape (codes "picture")) { rules = number_option (codes "from") 4096 ∷ number_option (codes "to") 4096 ∷ [] }
+picture_line =
+    record (new_shape (codes "picture")) {
+      rules = number_option (codes "from") 4096 ∷ number_option (codes "to") 4096 ∷ [];
+    }
 
 -- the command that runs a program
 abbrev pub run_line : Shape
-run_line = record (new_shape (codes "run")) { rules = required_option (codes "workers") 16 ∷ required_option (codes "turns") 10000 ∷ [] }
+run_line =
+    record (new_shape (codes "run")) {
+      rules = required_option (codes "workers") 16 ∷ required_option (codes "turns") 10000 ∷ [];
+    }
 
 -- the command that checks a text, with the name of the command that would read it, which may be
 -- missing
@@ -62,7 +72,9 @@ explain_line = record (new_shape (codes "explain")) { rules = new_rule (codes "w
 
 -- the commands, in the order in which they are added: those that answer a schedule
 abbrev pub schedule_commands : List Shape
-schedule_commands = text_line (codes "replay") ∷ text_line (codes "debug") ∷ json_line ∷ picture_line ∷ text_line (codes "expect") ∷ []
+schedule_commands =
+    text_line (codes "replay") ∷ text_line (codes "debug") ∷ json_line ∷ picture_line
+    ∷ text_line (codes "expect") ∷ []
 
 -- those that make steps as they come
 abbrev pub run_commands : List Shape
@@ -70,7 +82,8 @@ run_commands = shell_line ∷ run_line ∷ []
 
 -- and those about texts and words
 abbrev pub text_commands : List Shape
-text_commands = check_line ∷ text_line (codes "plain") ∷ explain_line ∷ text_line (codes "version") ∷ []
+text_commands =
+    check_line ∷ text_line (codes "plain") ∷ explain_line ∷ text_line (codes "version") ∷ []
 
 abbrev pub commands : List Shape
 commands = schedule_commands ++ run_commands ++ text_commands
@@ -90,7 +103,9 @@ SomeOneOf names (Some name) = IsOneOf names name
 
 -- the program's name, and that a command is wanted; clap adds its own `--version`
 abbrev pub top_line : App
-top_line = on_top (λ top. record top { subcommand_required = true; has_version = true }) (new_app (codes "txos"))
+top_line =
+    on_top (λ top. record top { subcommand_required = true; has_version = true })
+    (new_app (codes "txos"))
 
 -- one of the commands, which is required; clap adds its own `help`
 abbrev pub command_line : App
@@ -155,7 +170,8 @@ is_any reader = false
 abbrev pub gives_reader : Option (Text × List Row) → Bool
 gives_reader entered = is_some (text_in (codes "command") entered)
 
--- JSON is asked for only where the flag has a text other than `false`, and text only where that is not `true`
+-- JSON is asked for only where the flag has a text other than `false`, and text only where that is
+-- not `true`
 abbrev pub IsFormOf : Option Text → Form → Type 0
 IsFormOf said forms.Text = said ≢ Some (codes "true")
 IsFormOf said forms.Json = (said ≢ None) × (said ≢ Some (codes "false"))
@@ -170,7 +186,10 @@ IsAskedIn entered (Shell form) = IsFormOf (text_in (codes "json") entered) form
 IsAskedIn entered Json = (gives_workers entered ≡ false) × (gives_turns entered ≡ false)
 IsAskedIn entered (JsonRun crew) = (gives_workers entered ≡ true) × (gives_turns entered ≡ true)
 IsAskedIn entered HalfRun = gives_workers entered ≢ gives_turns entered
-IsAskedIn entered (Picture excerpt) = (excerpt.from ≤ excerpt.to) × (gives_from entered ≡ false → excerpt.from ≡ 1) × (gives_to entered ≡ false → excerpt.to ≡ 4096)
+IsAskedIn entered (Picture excerpt) =
+    (excerpt.from ≤ excerpt.to)
+    × (gives_from entered ≡ false → excerpt.from ≡ 1)
+    × (gives_to entered ≡ false → excerpt.to ≡ 4096)
 IsAskedIn entered NoExcerpt = (gives_from entered ≡ true) ⊎ (gives_to entered ≡ true)
 IsAskedIn entered (Check reader) = gives_reader entered ≡ not (is_any reader)
 IsAskedIn entered (NoReader word) = gives_reader entered ≡ true
@@ -183,7 +202,8 @@ begins_negative (first ∷ []) = false
 begins_negative (first ∷ second ∷ rest) = first == 45 && is_ascii_digit second
 
 abbrev pub number_after : Text → Text → Option Text
-number_after command word = if bytes_eq command (codes "explain") && begins_negative word then Some word else None
+number_after command word =
+    if bytes_eq command (codes "explain") && begins_negative word then Some word else None
 
 -- the number with `-` before it that words ask to explain
 abbrev pub asked_number : List Text → Option Text
