@@ -6,7 +6,7 @@ ghost use Rattle.tx_check.specs.Labels.{AreKnown};
 ghost use Rattle.tx_check.specs.Numbered.{after_lines};
 ghost use Rattle.tx_check.specs.OwnLines.{GoesOn, IsFrom, IsLineAt, IsWrongAfter, ReportsAfter};
 ghost use Rattle.tx_check.specs.Reads as spec;
-ghost use Rattle.tx_check.specs.Reads.{Finds, IsAtFault};
+ghost use Rattle.tx_check.specs.Reads.{IsAtFault};
 ghost use Rattle.tx_check.specs.Contexts.{IsPlaceAt};
 ghost use Rattle.tx_check.specs.Speaking.{kind_of_what, IsKindAt};
 ghost use Rattle.tx_check.specs.Diagnostics.{kind_of_fault, BeginsOfKind, Grows, IsMeantFault, IsReportOf, ReportsFrom};
@@ -34,6 +34,13 @@ use tx_base::NoMemory;
 use tx_lines::Fault;
 use tx_translate::{MeantLines, Room};
 
+/// A report, and the line of the text itself up to which it goes.
+#[derive(Drop)]
+struct Report<'a> {
+    text: String,
+    own: TextFrom<'a>,
+}
+
 /// The report on a text of any version: nothing exactly where what it means is a text of its kind
 /// (`kind_of`), and so is read by the command of that kind. Else a diagnostic for each line at
 /// fault: `line L, column C: ` and a sentence that says what was expected there. The first is of
@@ -41,11 +48,11 @@ use tx_translate::{MeantLines, Room};
 /// fault in its place, whatever is before it. None of those is left out, up to the first line that
 /// is one too many; where only labels are nowhere, no line that names one is left out.
 ///
-/// The first sentence is of the kind of the fault (`kind_of_fault`): that a line is too long, or one
-/// too many; that there is no such label; or that the grammar has no such line.
+/// The first sentence is of the kind of the fault (`kind_of_fault`): that a line is too long, or
+/// one too many; that there is no such label; or that the grammar has no such line.
 ///
-/// Lines count from 1 and columns in bytes from 1, both in the text as it is given; the column after
-/// a line's last byte is its end.
+/// Lines count from 1 and columns in bytes from 1, both in the text as it is given; the column
+/// after a line's last byte is its end.
 ///
 /// A text that is right is read once. Where memory for that is refused, the check goes on without
 /// it: the only error is that a growth of the report was refused.
@@ -90,7 +97,8 @@ pub fn report_from(
     requires fault { IsAtFault kind (left_of meant.now.text) fault }
     requires there { IsFaultIn (left_of meant.now.text) fault }
     requires own { 1 ≤ own_line text.now (spec.line_of fault) }
-    ensures reports { IfOk result (λ report. ReportsFrom (IsWrongAfterFault fault (meant_of text.now)) text.now
+    ensures reports { IfOk result (λ report.
+        ReportsFrom (IsWrongAfterFault fault (meant_of text.now)) text.now
         (own_line text.now (spec.line_of fault)) (string_bytes report)) }
     ensures kind { IfOk result (λ report. BeginsOfKind
         (kind_of_fault (fault_by (own_line text.now) fault)) (string_bytes report)) }
@@ -107,13 +115,14 @@ pub fn report_from(
     let own = TextFrom::first(text).moved_to(line.number);
     let own_line = own.line();
     let trouble = trouble_at_fault(meant.text, meant, &place, faulty);
-    let mut report = String::new(alloc);
     let is_third = meant.text.are_third();
     let trouble = own_trouble(is_third, place.part, faulty.bytes, own_line.bytes, trouble);
-    put_diagnostic(alloc, &mut report, own_line, trouble)?;
+    let mut text = String::new(alloc);
+    put_diagnostic(alloc, &mut text, own_line, trouble)?;
+    let mut report = Report { text, own };
     let place = place.after(faulty.bytes);
-    report_after(alloc, meant, place, number, behind, own, &mut report)?;
-    Ok(report)
+    report_after(alloc, meant, place, number, behind, &mut report)?;
+    Ok(report.text)
 }
 
 /// The trouble with the line at fault.
@@ -183,16 +192,14 @@ fn place_by(fault: Fault, place: Place) -> Place
 }
 
 /// Reports the lines at fault after so many that are meant, up to the first one that is one too
-/// many. The first line after them has that place. The text itself is reported up to a line of its
-/// own.
+/// many. The first line after them has that place.
 fn report_after(
     alloc: Global,
     meant: &Labels<'_>,
     place: Place,
     passed: u64,
     lines: MeantLines<'_>,
-    own: TextFrom<'_>,
-    report: &mut String,
+    report: &mut Report<'_>,
 ) -> Result<(), NoMemory>
     requires known { AreKnown meant.now }
     requires place { IsPlaceAt (left_of meant.now.text) (passed + 1) place }
@@ -200,16 +207,16 @@ fn report_after(
     requires some { 1 ≤ passed }
     ensures reports { OnOk result
         ((text : List ℕ) (first : ℕ) → left_of meant.now.text ≡ meant_of text →
-        OwnsFrom text (passed + 1) lines.entry → IsFrom text own.entry →
-        own.entry.number ≤ own_line text passed →
-        ReportsAfter place.part passed passed text first own.entry.number
-        (string_bytes report.old) →
+        OwnsFrom text (passed + 1) lines.entry → IsFrom text report.old.own →
+        report.old.own.number ≤ own_line text passed →
+        ReportsAfter place.part passed passed text first report.old.own.number
+        (string_bytes report.old.text) →
         ReportsFrom (IsWrongAfter place.part passed (meant_of text)) text first
-        (string_bytes report.new)) }
-    ensures grows { OnOk result (Grows (string_bytes report.old) (string_bytes report.new)) }
+        (string_bytes report.new.text)) }
+    ensures grows { OnOk result
+        (Grows (string_bytes report.old.text) (string_bytes report.new.text)) }
 {
     let mut place = place;
-    let mut reached = own;
     let mut room = Room::new();
     let mut left = lines;
     for before in passed..u64::MAX {
@@ -224,42 +231,42 @@ fn report_after(
             bytes: line.meaning(&mut room),
             is_ended: line.is_ended,
         };
-        reached = report_line(alloc, meant, &place, next, line.number, reached, report)?;
+        report_line(alloc, meant, &place, next, line.number, report)?;
         place = place.after(next.bytes);
         left = behind;
     }
     Ok(())
 }
 
-/// Reports a line at fault at that place, which the text's own line of that number means. Says how
-/// far the text itself is reported then.
-fn report_line<'a>(
+/// Reports a line at fault at that place, which the text's own line of that number means.
+fn report_line(
     alloc: Global,
     meant: &Labels<'_>,
     place: &Place,
     line: TextLine<'_>,
     number: u64,
-    own: TextFrom<'a>,
-    report: &mut String,
-) -> Result<TextFrom<'a>, NoMemory>
+    report: &mut Report<'_>,
+) -> Result<(), NoMemory>
     requires known { AreKnown meant.now }
     requires place { IsPlaceAt (left_of meant.now.text) line.number place.now }
     requires line { IsLineAt (left_of meant.now.text) line }
-    ensures goes { IfOk result (λ next.
-        GoesOn place.now.part meant.now.text line.entry.number number own.entry next
-        (string_bytes report.old) (string_bytes report.new)) }
-    ensures grows { OnOk result (Grows (string_bytes report.old) (string_bytes report.new)) }
+    ensures goes { OnOk result
+        (GoesOn place.now.part meant.now.text line.entry.number number report.old.own report.new.own
+        (string_bytes report.old.text) (string_bytes report.new.text)) }
+    ensures grows { OnOk result
+        (Grows (string_bytes report.old.text) (string_bytes report.new.text)) }
 {
     let Some(trouble) = trouble_of(meant.text, meant, place, line) else {
-        return Ok(own);
+        return Ok(());
     };
-    if number <= own.number {
-        return Ok(own);
+    if number <= report.own.number {
+        return Ok(());
     }
-    let next = own.moved_to(number);
+    let next = report.own.moved_to(number);
     let own_line = next.line();
     let is_third = meant.text.are_third();
     let trouble = own_trouble(is_third, place.part, line.bytes, own_line.bytes, trouble);
-    put_diagnostic(alloc, report, own_line, trouble)?;
-    Ok(next)
+    put_diagnostic(alloc, &mut report.text, own_line, trouble)?;
+    report.own = next;
+    Ok(())
 }

@@ -1,5 +1,5 @@
 //! Reports what is wrong with a text for one of the commands.
-ghost use Rattle.std.specs.Prelude.{◌≡◌, ◌≢◌, ◌≤◌, Some, IfNone, IfOk, IfSome, ℕ, List, string_bytes};
+ghost use Rattle.std.specs.Prelude.{◌≡◌, ◌≢◌, ◌≤◌, Some, IfNone, IfOk, IfSome, string_bytes};
 ghost use Rattle.tx_check.specs.Kinds as kinds_spec;
 ghost use Rattle.tx_check.specs.Readers.{IsReportAs, IsReportFor, IsSaidFor};
 ghost use Rattle.tx_lines.specs.declared.faults.Fault.{Fault};
@@ -139,7 +139,8 @@ fn report_alone(
     place: usize,
 ) -> Result<String, NoMemory>
     requires { 1 ≤ number }
-    ensures { IfOk result (λ report. ReportsFrom (λ line. ⊥) text.now number (string_bytes report)) }
+    ensures { IfOk result (λ report.
+        ReportsFrom (λ line. ⊥) text.now number (string_bytes report)) }
 {
     let line = TextFrom::first(text).moved_to(number).line();
     let column = own_word(line.bytes, place).map_or(1, |word| word.column);

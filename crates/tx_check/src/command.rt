@@ -24,8 +24,8 @@ pub fn check<S: Source, W: Sink>(alloc: Global, source: &mut S, sink: &mut W) ->
 /// Reads a text to its end, and writes the report of `check_text_for` for that command. Answers
 /// whether the command reads the text, and so nothing is reported.
 ///
-/// `TooLong` at line 0 where the text has more than 1,048,576 bytes, and `Reader` and `NoMemory`: nothing
-/// is written then. `Writer`: a front of the report is.
+/// `TooLong` at line 0 where the text has more than 1,048,576 bytes, and `Reader` and `NoMemory`:
+/// nothing is written then. `Writer`: a front of the report is.
 pub fn check_for<S: Source, W: Sink>(
     alloc: Global,
     reader: Reader,

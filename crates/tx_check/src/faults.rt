@@ -28,9 +28,9 @@ use tx_translate::{MeantLines, Room};
 /// The line after a header.
 const FIRST_LINE: u64 = 2;
 
-/// The fault at which the command of that kind finds a text: that of the first line which is at fault
-/// in its place, and where there is none, of the first one that names a label that is nowhere.
-/// Nothing where the command reads the text.
+/// The fault at which the command of that kind finds a text: that of the first line which is at
+/// fault in its place, and where there is none, of the first one that names a label that is
+/// nowhere. Nothing where the command reads the text.
 ///
 /// No line is kept, but where labels are is known. Each label of a program, and each one that is
 /// named, is compared with the labels before it: at most 256 comparisons for each of 256 labels and

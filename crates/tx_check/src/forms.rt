@@ -1,5 +1,5 @@
 //! The calls and commands by name, and the form of what follows each.
-ghost use Rattle.std.specs.Prelude.{◌≡◌, ◌<◌};
+ghost use Rattle.std.specs.Prelude.{◌<◌};
 
 /// A name, and the form of the words after it, as people are shown it: a word in capitals stands
 /// for others (`Field`), of words that are separated by `|` one is expected, and one in brackets

@@ -1,5 +1,5 @@
-//! Names that people know from elsewhere: which of the names here is meant, and which calls are left
-//! out on purpose.
+//! Names that people know from elsewhere: which of the names here is meant, and which calls are
+//! left out on purpose.
 ghost use Rattle.std.specs.Prelude.{◌≡◌, IfSome};
 ghost use Rattle.tx_check.specs.Speaking.{kind_of_names, OfGrammar};
 

@@ -1,5 +1,5 @@
 //! Which kind a text is meant to be.
-ghost use Rattle.std.specs.Prelude.{◌≡◌, ◌≤◌, IsTrue, length};
+ghost use Rattle.std.specs.Prelude.{◌≡◌, ◌≤◌, length};
 ghost use Rattle.tx_check.specs.Kinds as spec;
 ghost use Rattle.tx_translate.specs.MeantLines.{left_of};
 
@@ -17,8 +17,9 @@ pub enum Kind {
     Program,
 }
 
-/// The kind of what a text means: a program where the first line begins with `txos`, a word and `program`,
-/// else a schedule with commands where a line after the first is `debug`, else a schedule.
+/// The kind of what a text means: a program where the first line begins with `txos`, a word and
+/// `program`, else a schedule with commands where a line after the first is `debug`, else a
+/// schedule.
 pub fn kind_of(text: MeantLines<'_>) -> Kind
     ensures { result ≡ spec.kind_of (left_of text.entry) }
 {

@@ -1,5 +1,5 @@
 //! The labels among the lines that a text means.
-ghost use Rattle.std.specs.Prelude.{◌≡◌, ◌≢◌, ◌+◌, ◌<◌, ◌≤◌, ◌++◌, ◌↔◌, ℕ, IfNone, IfSome, IsFalse, IsTrue, map};
+ghost use Rattle.std.specs.Prelude.{◌≡◌, ◌≢◌, ◌+◌, ◌<◌, ◌++◌, ◌↔◌, ℕ, IfNone, IfSome, IsFalse, IsTrue, map};
 ghost use Rattle.tx_check.specs.Labels.{label_at, with_label, AreKnown, IsFirstLabel};
 ghost use Rattle.tx_check.specs.Numbered.{after_lines, line_at};
 ghost use Rattle.tx_lines.specs.Programs.{label_front};

@@ -31,8 +31,8 @@ pub enum NearName<'a> {
     Label(OwnLine<'a>),
 }
 
-/// The name among those there are that is meant by a word: one that people know it by from elsewhere,
-/// or the one that is nearest to it, where one is near.
+/// The name among those there are that is meant by a word: one that people know it by from
+/// elsewhere, or the one that is nearest to it, where one is near.
 pub fn near_name<'a>(
     alloc: Global,
     names: Names<'a>,
@@ -127,7 +127,8 @@ fn nearest_form(
 ) -> Result<Option<(NearName<'static>, usize)>, NoMemory>
     ensures { IfOk result (λ found. (names : List (List ℕ)) →
         FindsNear word.now names 5 (option_map near nearest.entry) →
-        FindsNear word.now (names ++ map (λ form. form.0.now) forms.now) 5 (option_map near found)) }
+        FindsNear word.now (names ++ map (λ form. form.0.now) forms.now) 5
+        (option_map near found)) }
 {
     let mut found = nearest;
     for at in 0..forms.len() {

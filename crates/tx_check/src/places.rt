@@ -90,7 +90,8 @@ impl Place {
     pub fn after_header(kind: TextKind, version: Version) -> Place
         ensures version { result.version ≡ version }
         ensures link { result.part ≡ parts.Link → ⊥ }
-        ensures in_context { (line : List ℕ) → IsPlaceOf (next_context (AtHeader kind) line) result }
+        ensures in_context { (line : List ℕ) →
+            IsPlaceOf (next_context (AtHeader kind) line) result }
     {
         let part = match kind {
             TextKind::Schedule => Part::Step,

@@ -1,5 +1,5 @@
 //! The faults that the readers find in texts.
-ghost use Rattle.std.specs.Prelude.{◌≡◌, ◌≢◌, Some, IfOk};
+ghost use Rattle.std.specs.Prelude.{◌≢◌, Some, IfOk};
 ghost use Rattle.tx_check.specs.Reads.{Finds};
 ghost use Rattle.tx_lines.specs.declared.faults.Fault.TheVariants as faults;
 

@@ -94,7 +94,8 @@ fn part_of(line: &[u8], is_step: bool) -> Part {
     }
 }
 
-/// What is wrong with a line of version 3 that means none: it has no word, or gives a name to a process.
+/// What is wrong with a line of version 3 that means none: it has no word, or gives a name to a
+/// process.
 fn no_meaning(line: &[u8]) -> Trouble<'_> {
     match own_word(line, 0) {
         Some(first) => Trouble::of_word(first, WordTrouble::NoProcess),

@@ -20,7 +20,8 @@ pub fn bytes_trouble<'a>(word: Word<'a>) -> Option<Trouble<'a>> {
     Some(Trouble::of_word(word, trouble))
 }
 
-/// What is wrong with the digits of a word that is no bytes, where they may be of either case or not.
+/// What is wrong with the digits of a word that is no bytes, where they may be of either case or
+/// not.
 pub fn digits_trouble(digits: &[u8], is_either_case: bool) -> WordTrouble<'static> {
     if !digits.iter().all(|byte| byte.is_ascii_hexdigit()) {
         return WordTrouble::NoHexDigits;

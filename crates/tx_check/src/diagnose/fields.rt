@@ -7,8 +7,8 @@ use crate::trouble::{Trouble, WordTrouble};
 use crate::words::Word;
 use tx_lines::{TextKind, read_name};
 
-/// What is wrong with a word that stands for that in a text of that kind. A program may take a number
-/// from a slot, and names a point by a label.
+/// What is wrong with a word that stands for that in a text of that kind. A program may take a
+/// number from a slot, and names a point by a label.
 pub fn field_trouble<'a>(kind: TextKind, field: Field, word: Word<'a>) -> Option<Trouble<'a>> {
     match (kind, field) {
         (TextKind::Program, Field::Number) => match word.bytes {

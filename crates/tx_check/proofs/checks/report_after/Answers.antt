@@ -18,7 +18,7 @@ loop-before-init c = record {
   place = c.requires.place;
   alike = record { there = λ link. link; back = λ link. link };
   some = c.requires.some;
-  grows = grows_none (string_bytes c.args.report.now);
+  grows = grows_none (string_bytes c.args.report.now.text);
 }
 
 pub report_line-requires-clause-line : goal.report_line-requires-clause-line
@@ -32,7 +32,7 @@ returns-in_default-clause-reports c = λ text first is_meant owns is low up_to.
     let so = c.loop-before.invariant in
     let before = c.loop-before.before in
     let none = ap (after_lines before) (sym is_meant) ∙ sym so.at ∙ c.in_default.ensures.none in
-    none_left c.args.place.part c.args.passed before text first c.loop-before.reached.number (string_bytes c.loop-before.report) none ((so.goes text is_meant owns is low).1.on first up_to)
+    none_left c.args.place.part c.args.passed before text first c.loop-before.report.own.number (string_bytes c.loop-before.report.text) none ((so.goes text is_meant owns is low).1.on first up_to)
 
 pub returns-then-is_past_all-clause-reports : goal.returns-then-is_past_all-clause-reports
 returns-then-is_past_all-clause-reports c = λ text first is_meant owns is low up_to.
@@ -41,8 +41,8 @@ returns-then-is_past_all-clause-reports c = λ text first is_meant owns is low u
     let meant = left_of c.args.meant.now.text in
     let past = c.if-is_past_all.ensures.past refl (context_after (kind_of meant) meant (before + 1 - 1)) so.place.in_context in
     let there = subst (λ (bytes : List ℕ). IsPastAll (context_after (kind_of bytes) bytes (before + 1 - 1))) is_meant past in
-    let report = string_bytes c.loop-before.report in
-    none_past c.args.place.part c.loop-before.place.part c.args.passed before text first c.loop-before.reached.number report so.alike (c.if-is_past_all.ensures.link refl) there
+    let report = string_bytes c.loop-before.report.text in
+    none_past c.args.place.part c.loop-before.place.part c.args.passed before text first c.loop-before.report.own.number report so.alike (c.if-is_past_all.ensures.link refl) there
     ((so.goes text is_meant owns is low).1.on first up_to)
 
 pub loop-before-preserved : goal.loop-before-preserved
@@ -57,21 +57,21 @@ loop-before-preserved c =
           let report = so.goes text is_meant owns is low in
           let own = next.own text (before + 1) report.0 in
           let up = own_rises text before (before + 1) so.some (omega arith) in
-          let old = string_bytes c.args.report.now in
+          let old = string_bytes c.args.report.now.text in
           let here = c.loop-before.place.part in
-          let on = reported_to c.args.place.part here c.args.passed text c.args.own old before c.in-Some.line.number c.loop-before.reached c.in_ok-reached.reached
-          (string_bytes c.loop-before.report) _ c.args.meant.now.text so.alike is_meant (own.own (omega arith)) up c.in_ok-reached.ensures.goes report.1 in
+          let on = reported_to c.args.place.part here c.args.passed text c.args.report.now.own old before c.in-Some.line.number c.loop-before.report.own c.report_line.new.report.own
+          (string_bytes c.loop-before.report.text) _ c.args.meant.now.text so.alike is_meant (own.own (omega arith)) up c.in_ok-report_line.ensures.goes report.1 in
           (own.behind, on);
       at = next.line.behind ∙ ap behind so.at ∙ lines_more before meant;
       place = in_context_later meant before (before + 1) (before + 1 + 1) c.meaning.result.now c.loop-before.place c.after-place.result refl (omega arith)
           (c.meaning.ensures ∙ next.line.bytes ∙ ap first_line so.at) so.place kept.version kept.in_context;
       alike = record { there = λ link. kept.linked (so.alike.there link); back = λ link. so.alike.back (kept.link link) };
       some = omega (arith, so.some);
-      grows = grows_on (string_bytes c.args.report.now) (string_bytes c.loop-before.report) (string_bytes c.report_line.new.report) so.grows c.in_ok-reached.ensures.grows;
+      grows = grows_on (string_bytes c.args.report.now.text) (string_bytes c.loop-before.report.text) (string_bytes c.report_line.new.report.text) so.grows c.in_ok-report_line.ensures.grows;
     }
 
 pub returns-clause-reports : goal.returns-clause-reports
 returns-clause-reports c = λ text first is_meant owns is low up_to.
     let so = c.loop-before.invariant in
-    none_more c.args.place.part c.args.passed c.loop-before.before text first c.loop-before.reached.number (string_bytes c.loop-before.report) (omega (arith, c.loop-before-test.false))
+    none_more c.args.place.part c.args.passed c.loop-before.before text first c.loop-before.report.own.number (string_bytes c.loop-before.report.text) (omega (arith, c.loop-before-test.false))
     ((so.goes text is_meant owns is low).1.on first up_to)

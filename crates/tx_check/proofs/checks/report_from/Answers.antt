@@ -68,8 +68,8 @@ returns-clause-reports c =
     let part = c.after-place.result.part in
     let passed = c.line_of-number.result in
     let meant = meant_of text in
-    let report = first_reported (λ n. (n ≤ passed) × IsWrongAfter part passed meant n) text line.result.bytes.now line.result.number (string_bytes c.new-report.result) (string_bytes c.put_diagnostic.new.report)
-    (λ n wanted. omega (arith, wanted.0, wanted.1.0)) same c.new-report.ensures.bytes c.in_ok-put_diagnostic.ensures.reports in
+    let report = first_reported (λ n. (n ≤ passed) × IsWrongAfter part passed meant n) text line.result.bytes.now line.result.number (string_bytes c.new-text.result) (string_bytes c.put_diagnostic.new.report)
+    (λ n wanted. omega (arith, wanted.0, wanted.1.0)) same c.new-text.ensures.bytes c.in_ok-put_diagnostic.ensures.reports in
     let up_to = subst (λ (n : ℕ). ReportsAfter part passed passed text n n (string_bytes c.put_diagnostic.new.report)) line.ensures.number report in
     let later = subst (λ (n : ℕ). OwnsFrom text (n + 1) c.cut.result.1) (sym c.line_of-number.ensures) owns.behind in
     let low : there.result.number ≤ own_line text passed = omega (arith, at, ap (own_line text) c.line_of-number.ensures) in
@@ -77,8 +77,8 @@ returns-clause-reports c =
     let at_fault = subst (λ (bytes : List ℕ). IsAtFault c.args.kind bytes c.args.fault) c.requires.meant c.requires.fault in
     let kept = c.after-place.ensures in
     let placed = c.place_of.ensures in
-    subst (λ (n : ℕ). ReportsFrom (IsWrongAfterFault c.args.fault meant) text n (string_bytes c.report_after.new.report)) at
-    (fewer (IsWrongAfter part passed meant) (IsWrongAfterFault c.args.fault meant) text there.result.number (string_bytes c.report_after.new.report)
+    subst (λ (n : ℕ). ReportsFrom (IsWrongAfterFault c.args.fault meant) text n (string_bytes c.report_after.new.report.text)) at
+    (fewer (IsWrongAfter part passed meant) (IsWrongAfterFault c.args.fault meant) text there.result.number (string_bytes c.report_after.new.report.text)
     (λ n wrong. wrong_after c.args.kind meant c.args.fault part passed n c.line_of-number.ensures at_fault
     (λ number label. kept.linked (placed.label number label)) (λ other link. placed.other other (kept.link link)) wrong) all)
 
@@ -111,12 +111,12 @@ returns-clause-kind c =
     (record { in_context = placed.place; same = c.line_of-number.ensures; bytes = meaning; ended = c.cut.ensures.line.ended ∙ ap ended_in placed.left })
     placed.label placed.other found.ensures.kind in
     let there_meant = ap (line_at number) c.requires.meant in
-    let reports = reported_so (own_line text) fault own.result.what line.result.number line.result.bytes.now (string_bytes c.new-report.result) (string_bytes c.put_diagnostic.new.report) (own.ensures.kind ∙ kind)
+    let reports = reported_so (own_line text) fault own.result.what line.result.number line.result.bytes.now (string_bytes c.new-text.result) (string_bytes c.put_diagnostic.new.report) (own.ensures.kind ∙ kind)
     (λ too. let long = found.ensures.long (own.ensures.long too) in
     let over : 512 < length (line_at number (meant_of text)) = omega (arith, long, ap length (meaning ∙ there_meant)) in
     omega (arith, own_long text number some over, ap length same))
     (λ long. long_kind read fault c.requires.there
     (omega (arith, meant_long text number some (subst (λ (b : List ℕ). 512 < length (without_return b)) same long), ap length there_meant)))
     c.in_ok-put_diagnostic.ensures.kind in
-    begins (kind_of_fault (fault_by (own_line text) fault)) line.result.number line.result.bytes.now (string_bytes c.new-report.result) (string_bytes c.put_diagnostic.new.report)
-    (string_bytes c.report_after.new.report) c.new-report.ensures.bytes reports c.in_ok-report_after.ensures.grows
+    begins (kind_of_fault (fault_by (own_line text) fault)) line.result.number line.result.bytes.now (string_bytes c.new-text.result) (string_bytes c.put_diagnostic.new.report)
+    (string_bytes c.report_after.new.report.text) c.new-text.ensures.bytes reports c.in_ok-report_after.ensures.grows
