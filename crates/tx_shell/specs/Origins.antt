@@ -20,7 +20,8 @@ grammar_of One = versions.One
 grammar_of Two = versions.Two
 grammar_of Three = versions.Two
 
--- of which version the lines are, how many processes there may be, and how many there were at the start
+-- of which version the lines are, how many processes there may be, and how many there were at the
+-- start
 pub record Origin : Type 0 where
   pub version : TextVersion
   pub width : ℕ
@@ -44,9 +45,14 @@ version_of false versions.Two = Two
 abbrev pub text_of : List ℕ → List ℕ
 text_of line = line ++ 10 ∷ []
 
+-- without a header a session begins as a text of version 3 with two processes
+abbrev pub unsaid_origin : Origin
+unsaid_origin = record { version = Three; width = 256; count = 2 }
+
 -- what a header says, once it is read
 abbrev pub origin_said : Opening → Origin
-origin_said o = record { version = o.version; width = most_of o.header.version; count = o.header.count }
+origin_said o =
+    record { version = o.version; width = most_of o.header.version; count = o.header.count }
 
 -- the line is the first one of a schedule, and says that
 pub record SaysOrigin (line : List ℕ) (o : Origin) : Type 0 where

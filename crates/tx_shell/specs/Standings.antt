@@ -4,12 +4,11 @@ use Rattle.tx_shell.specs.Answers.{AnswersWords, Kept, StopsShortOf}
 use Rattle.tx_shell.specs.Forms.{SaysNothing, SaysPosition}
 use Rattle.tx_shell.specs.Meanings.{meant_line}
 use Rattle.tx_shell.specs.Names.{given_as}
-use Rattle.tx_shell.specs.Origins.{Origin, SaysNoOrigin, SaysOrigin}
+use Rattle.tx_shell.specs.Origins.{Origin, SaysNoOrigin, SaysOrigin, unsaid_origin}
 use Rattle.tx_shell.specs.Places.{origin_of, Place, place_of}
 use Rattle.tx_script.specs.declared.forms.Form.{Form}
 use Rattle.tx_shell.specs.declared.answers.Interpreter.{Interpreter}
 use Rattle.tx_shell.specs.declared.shell.Shell.{Shell}
-use Rattle.tx_shell.specs.declared.lines.versions.TextVersion.TheVariants.{Three}
 
 -- in which form it is answered, how it began, whether a header may still come, the position of its
 -- steps, and what is kept beside its steps
@@ -21,12 +20,19 @@ pub record Standing : Type 0 where
   pub kept : Kept
 
 abbrev pub kept_of : Interpreter → Kept
-kept_of i = record { refused = i.refused.last; own = i.refused.own; names = map given_as i.given.items }
+kept_of i =
+    record { refused = i.refused.last; own = i.refused.own; names = map given_as i.given.items }
 
 abbrev pub standing_of : Shell → Standing
 standing_of shell =
     let i = shell.interpreter in
-    record { form = i.form; origin = origin_of i.version i.session; is_fresh = shell.is_fresh; place = place_of i.session; kept = kept_of i }
+    record {
+      form = i.form;
+      origin = origin_of i.version i.session;
+      is_fresh = shell.is_fresh;
+      place = place_of i.session;
+      kept = kept_of i;
+    }
 
 -- no step is made
 abbrev pub at_start : Place
@@ -38,11 +44,12 @@ nothing_kept = record { refused = None; own = replicate 256 None; names = [] }
 
 -- a session that begins so, and may have no header any more
 abbrev pub begun_by : Form → Origin → Standing
-begun_by form o = record { form = form; origin = o; is_fresh = false; place = at_start; kept = nothing_kept }
+begun_by form o =
+    record { form = form; origin = o; is_fresh = false; place = at_start; kept = nothing_kept }
 
--- without a header it begins as a text of version 3 with two processes
+-- before its first line, which may be a header
 abbrev pub first_standing : Form → Standing
-first_standing form = record { form = form; origin = record { version = Three; width = 256; count = 2 }; is_fresh = true; place = at_start; kept = nothing_kept }
+first_standing form = record (begun_by form unsaid_origin) { is_fresh = true }
 
 -- a header may come, and is there: the session begins as it says
 pub record Opens (s : Standing) (line text : List ℕ) (t : Standing) : Type 0 where
@@ -60,7 +67,8 @@ IsNoHeader s line = (s.is_fresh ≡ false) ⊎ SaysNoOrigin line
 
 -- it goes on at that place, with what is kept then, and no header may come
 abbrev pub going_on : Standing → Place → Kept → Standing
-going_on s q kept = record { form = s.form; origin = s.origin; is_fresh = false; place = q; kept = kept }
+going_on s q kept =
+    record { form = s.form; origin = s.origin; is_fresh = false; place = q; kept = kept }
 
 -- what ends a session
 abbrev pub quit_line : List ℕ
@@ -71,11 +79,17 @@ quit_line = codes "quit"
 abbrev pub AnswersMeant : Standing → List ℕ → Option (List ℕ) → List ℕ → Standing → Type 0
 AnswersMeant s line None text t = SaysNothing s.form text × (t ≡ s)
 AnswersMeant s line (Some words) text t =
-    (words ≢ quit_line) × ((q : Place) × ((kept : Kept) × AnswersWords s.form s.origin s.place s.kept line words text q kept × (t ≡ going_on s q kept)))
+    (words ≢ quit_line)
+    × ((q : Place)
+    × ((kept : Kept)
+    × AnswersWords s.form s.origin s.place s.kept line words text q kept
+    × (t ≡ going_on s q kept)))
 
 -- how a line is answered, and where the session is then
 abbrev pub Answers : Standing → List ℕ → List ℕ → Standing → Type 0
-Answers s line text t = Opens s line text t ⊎ (IsNoHeader s line × AnswersMeant s line (meant_line s.origin.version line) text t)
+Answers s line text t =
+    Opens s line text t
+    ⊎ (IsNoHeader s line × AnswersMeant s line (meant_line s.origin.version line) text t)
 
 -- the line asks for the end of the session
 pub record IsQuit (s : Standing) (line : List ℕ) : Type 0 where
@@ -84,7 +98,10 @@ pub record IsQuit (s : Standing) (line : List ℕ) : Type 0 where
 
 -- memory was refused: nothing changed but perhaps the position, where the words ask for another one
 abbrev pub StopsMeant : Standing → List ℕ → Standing → Type 0
-StopsMeant s words t = (q : Place) × StopsShortOf s.origin s.place words q × (t ≡ record s { place = q })
+StopsMeant s words t =
+    (q : Place) × StopsShortOf s.origin s.place words q × (t ≡ record s { place = q })
 
 abbrev pub Stops : Standing → List ℕ → Standing → Type 0
-Stops s line t = (t ≡ s) ⊎ ((words : List ℕ) × (meant_line s.origin.version line ≡ Some words) × StopsMeant s words t)
+Stops s line t =
+    (t ≡ s)
+    ⊎ ((words : List ℕ) × (meant_line s.origin.version line ≡ Some words) × StopsMeant s words t)

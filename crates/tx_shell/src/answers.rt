@@ -5,8 +5,10 @@ ghost use Rattle.tx_journal.specs.Entries.{history_of};
 ghost use Rattle.tx_shell.specs.Answers.{kept_by, left_by, AnswersAskIn, AnswersStep, AnswersWords, StopsShort, StopsShortOf};
 ghost use Rattle.tx_shell.specs.Forms.{IsPlaced, SaysAnswer};
 ghost use Rattle.tx_shell.specs.Names.{names_at};
+ghost use Rattle.tx_lines.specs.Lines.{FitsHeader};
+ghost use Rattle.tx_shell.specs.Origins.{origin_said};
 ghost use Rattle.tx_shell.specs.Places.{origin_of, place_of};
-ghost use Rattle.tx_shell.specs.Standings.{kept_of};
+ghost use Rattle.tx_shell.specs.Standings.{at_start, kept_of, nothing_kept};
 
 pub mod answer;
 pub mod as_json;
@@ -25,6 +27,7 @@ use crate::answers::refused::Refused;
 use crate::answers::reports::report_in;
 use crate::answers::steps::answer_step;
 use crate::lines::asks::{Ask, read_ask};
+use crate::lines::openings::Opening;
 use crate::lines::versions::TextVersion;
 use crate::names::{Given, Names, forked_by, keep_names, maker_of};
 use std::alloc::Global;
@@ -46,8 +49,29 @@ pub struct Interpreter {
 }
 
 impl Interpreter {
-    /// Does what a line says, which means those words, and puts its answer in place of what the text had.
-    /// Keeps which step was refused last, and the names of processes.
+    /// What answers lines in a form from the start of a session, as its header says.
+    ///
+    /// NoMemory where a growth is refused.
+    pub fn new(alloc: Global, form: Form, opening: Opening) -> Result<Interpreter, NoMemory>
+        requires { FitsHeader opening.header }
+        ensures form { IfOk result (λ it. it.form ≡ form) }
+        ensures origin { IfOk result (λ it. origin_of it.version it.session ≡ origin_said opening) }
+        ensures place { IfOk result (λ it. place_of it.session ≡ at_start) }
+        ensures kept { IfOk result (λ it. kept_of it ≡ nothing_kept) }
+    {
+        let mut session = Session::boot_by(alloc, opening.header)?;
+        reserve_ahead(&mut session);
+        Ok(Interpreter {
+            form,
+            version: opening.version,
+            session,
+            refused: Refused::new(alloc)?,
+            given: Vec::new(alloc),
+        })
+    }
+
+    /// Does what a line says, which means those words, and puts its answer in place of what the
+    /// text had. Keeps which step was refused last, and the names of processes.
     ///
     /// NoMemory where a growth is refused: no step came or went then, and the position is the old
     /// one, or between that and the one that is asked for. The text has nothing to be shown.
@@ -60,7 +84,8 @@ impl Interpreter {
     ) -> Result<(), NoMemory>
         ensures answer { OnOk result
             (AnswersWords self.old.form (origin_of self.old.version self.old.session)
-            (place_of self.old.session) (kept_of self.old) line.now words.now (string_bytes text.new)
+            (place_of self.old.session) (kept_of self.old) line.now words.now
+            (string_bytes text.new)
             (place_of self.new.session) (kept_of self.new)) }
         ensures stops { OnErr result
             (StopsShortOf (origin_of self.old.version self.old.session) (place_of self.old.session)
@@ -87,7 +112,8 @@ impl Interpreter {
     /// Keeps the step if it had to be made and was refused. Where it was accepted, drops those that
     /// were kept of its process, and of the one that it forks.
     ///
-    /// NoMemory where a growth is refused; no step came or went then. The text has nothing to be shown.
+    /// NoMemory where a growth is refused; no step came or went then. The text has nothing to be
+    /// shown.
     pub fn answer_step_line(
         &mut self,
         alloc: Global,
@@ -183,4 +209,15 @@ fn leave(session: &mut Session, lets_go: bool)
         return;
     }
     session.cut();
+}
+
+/// How many steps have room from the start: those of the longest text.
+const STEPS_AHEAD: usize = 4_096;
+
+/// Makes room for the steps of a long session, which the system gives as it is used: lists that
+/// grow are copied. Where it is refused, each step asks for its own.
+fn reserve_ahead(session: &mut Session)
+    ensures { session.new ≡ session.old }
+{
+    let _room = session.reserve(STEPS_AHEAD);
 }

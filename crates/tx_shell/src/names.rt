@@ -1,6 +1,6 @@
 //! The names that processes have at the position of a session.
 ghost use Rattle.std.specs.Prelude.{◌≡◌, ◌++◌, OnErr, OnOk, Some, count_by, map, option_map, string_bytes, take};
-ghost use Rattle.tx_journal.specs.Entries.{accepted_of, history_of};
+ghost use Rattle.tx_journal.specs.Entries.{history_of};
 ghost use Rattle.tx_model.specs.Processes.{pid_of};
 ghost use Rattle.tx_shell.specs.Names.{after_number, after_step, computed_name, forked, given_as, is_given_to, is_it, kind_name, maker, maker_name, named, names_by, process_there, step_made_text};
 
@@ -22,8 +22,8 @@ pub struct Given {
     pub name: String,
 }
 
-/// The names that processes have at the position of a session. Each is found as it is asked for, so they
-/// take no memory.
+/// The names that processes have at the position of a session. Each is found as it is asked for, so
+/// they take no memory.
 #[derive(Clone, Copy)]
 pub struct Names<'a> {
     pub session: &'a Session,

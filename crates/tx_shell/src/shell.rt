@@ -10,13 +10,10 @@ ghost use Rattle.tx_shell.specs.Standings.{IsNoHeader, IsQuit, Stops, StopsMeant
 
 use crate::answers::Interpreter;
 use crate::answers::forms::{say_nothing, say_position};
-use crate::answers::refused::Refused;
 use crate::lines::meanings::meant_line;
 use crate::lines::openings::{Opening, read_opening};
-use crate::lines::versions::TextVersion;
 use std::alloc::Global;
 use tx_base::{NoMemory, Reply, Step};
-use tx_journal::Session;
 use tx_lines::read_step_into;
 use tx_script::Form;
 use tx_translate::{Room, second_stays_itself};
@@ -41,17 +38,8 @@ impl Shell {
     pub fn new(alloc: Global, form: Form) -> Result<Shell, NoMemory>
         ensures { IfOk result (λ shell. standing_of shell ≡ first_standing form) }
     {
-        let refused = Refused::new(alloc)?;
-        let mut session = Session::boot_wide(alloc, 2)?;
-        reserve_ahead(&mut session);
         Ok(Shell {
-            interpreter: Interpreter {
-                form,
-                version: TextVersion::Three,
-                session,
-                refused,
-                given: Vec::new(alloc),
-            },
+            interpreter: Interpreter::new(alloc, form, Opening::unsaid())?,
             is_fresh: true,
             step: Step::blank(),
             reply: Reply::Ended,
@@ -94,8 +82,8 @@ impl Shell {
         self.answer_other(alloc, room, line, text)
     }
 
-    /// Does what a line says that is no header, and answers it, as `answer` does. A step as version 2
-    /// spells it means itself, and is not looked at as a line of version 3.
+    /// Does what a line says that is no header, and answers it, as `answer` does. A step as version
+    /// 2 spells it means itself, and is not looked at as a line of version 3.
     fn answer_other(
         &mut self,
         alloc: Global,
@@ -105,7 +93,8 @@ impl Shell {
     ) -> Result<bool, NoMemory>
         ensures answer { IfOk result (λ goes_on.
             MatchBool goes_on
-            (AnswersMeant (standing_of self.old) line.now (meant_line self.old.interpreter.version line.now)
+            (AnswersMeant (standing_of self.old) line.now
+            (meant_line self.old.interpreter.version line.now)
             (string_bytes text.new) (standing_of self.new))
             ((meant_line self.old.interpreter.version line.now ≡ Some quit_line)
             × (standing_of self.new ≡ standing_of self.old))) }
@@ -131,7 +120,8 @@ impl Shell {
     ) -> Result<bool, NoMemory>
         ensures answer { IfOk result (λ goes_on.
             MatchBool goes_on
-            (AnswersMeant (standing_of self.old) line.now (meant_line self.old.interpreter.version line.now)
+            (AnswersMeant (standing_of self.old) line.now
+            (meant_line self.old.interpreter.version line.now)
             (string_bytes text.new) (standing_of self.new))
             ((meant_line self.old.interpreter.version line.now ≡ Some quit_line)
             × (standing_of self.new ≡ standing_of self.old))) }
@@ -184,18 +174,14 @@ impl Shell {
     #[inline(never)] // as `answer_meaning`
     fn open(&mut self, alloc: Global, opening: Opening) -> Result<String, NoMemory>
         requires { FitsHeader opening.header }
-        ensures report { IfOk result (λ text. SaysPosition self.old.interpreter.form 0 (string_bytes text)) }
-        ensures begun { OnOk result (standing_of self.new ≡ begun_by self.old.interpreter.form (origin_said opening)) }
+        ensures report { IfOk result (λ text.
+            SaysPosition self.old.interpreter.form 0 (string_bytes text)) }
+        ensures begun { OnOk result
+            (standing_of self.new ≡ begun_by self.old.interpreter.form (origin_said opening)) }
         ensures refused { OnErr result (self.new ≡ self.old) }
     {
-        let refused = Refused::new(alloc)?;
-        let mut session = Session::boot_by(alloc, opening.header)?;
-        reserve_ahead(&mut session);
         let text = say_position(alloc, self.interpreter.form, 0)?;
-        self.interpreter.session = session;
-        self.interpreter.version = opening.version;
-        self.interpreter.refused = refused;
-        self.interpreter.given.clear();
+        self.interpreter = Interpreter::new(alloc, self.interpreter.form, opening)?;
         self.is_fresh = false;
         Ok(text)
     }
@@ -223,15 +209,4 @@ impl Shell {
         self.is_fresh = false;
         Ok(true)
     }
-}
-
-/// How many steps have room from the start: those of the longest text.
-const STEPS_AHEAD: usize = 4_096;
-
-/// Makes room for the steps of a long session, which the system gives as it is used: lists that
-/// grow are copied. Where it is refused, each step asks for its own.
-fn reserve_ahead(session: &mut Session)
-    ensures { session.new ≡ session.old }
-{
-    let _room = session.reserve(STEPS_AHEAD);
 }

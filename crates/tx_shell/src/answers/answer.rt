@@ -38,8 +38,8 @@ pub enum Answer {
     Schedule,
     /// The reply that a step would get, and by which lines the state after it would differ.
     Trial(Reply, String),
-    /// By which lines the state at the second of these positions differs from that at the first. Nothing
-    /// where they are not both there.
+    /// By which lines the state at the second of these positions differs from that at the first.
+    /// Nothing where they are not both there.
     Diff(u64, u64, Option<String>),
     /// By which lines the state would differ without the transaction of this starter. Nothing where
     /// it has none.

@@ -110,7 +110,8 @@ fn put_names_of(
     Ok(())
 }
 
-/// Appends what JSON has of an answer after the lines of its text, and before the names of processes.
+/// Appends what JSON has of an answer after the lines of its text, and before the names of
+/// processes.
 fn put_members(
     alloc: Global,
     writer: &mut LineWriter,

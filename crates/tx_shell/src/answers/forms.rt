@@ -68,7 +68,8 @@ pub fn say_answer(
     }
 }
 
-/// Puts the reply of a step, which has that number where it was accepted, in place of what the text had.
+/// Puts the reply of a step, which has that number where it was accepted, in place of what the text
+/// had.
 ///
 /// NoMemory where a growth is refused; the text has nothing to be shown then.
 pub fn put_reply(

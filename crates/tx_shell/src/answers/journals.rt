@@ -1,5 +1,5 @@
 //! Prints the steps of a session: as a list, and as the schedule that makes them again.
-ghost use Rattle.std.specs.Prelude.{◌≡◌, ◌++◌, ◌∷◌, [], IfOk, OnOk, length, map, take, string_bytes};
+ghost use Rattle.std.specs.Prelude.{◌≡◌, ◌++◌, ◌∷◌, [], IfOk, OnOk, length, map, string_bytes};
 ghost use Rattle.tx_journal.specs.Entries.{accepted_of, history_of};
 ghost use Rattle.tx_journal.specs.Sessions.{made_of, position_of, start_of};
 ghost use Rattle.tx_lines.specs.Lines.{header_text};

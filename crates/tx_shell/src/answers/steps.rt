@@ -76,8 +76,8 @@ fn make_step(
     }
 }
 
-/// Puts the line of a reply in place of what the text had. The only error is that a growth of memory was
-/// refused: the text may then have some of it.
+/// Puts the line of a reply in place of what the text had. The only error is that a growth of
+/// memory was refused: the text may then have some of it.
 pub fn put_reply_line(text: &mut String, reply: &Reply) -> Result<(), AllocError>
     ensures { OnOk result (string_bytes text.new ≡ named_reply_text reply.now ++ 10 ∷ []) }
 {

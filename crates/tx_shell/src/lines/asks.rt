@@ -1,10 +1,8 @@
 //! What a session is asked for by lines that are no steps.
 ghost use Rattle.std.specs.Prelude.{◌≡◌, ◌≢◌, ◌<◌, ◌≤◌, ◌^◌, ◌++◌, ◌∷◌, ℕ, List, MatchOption, IfSome, None, codes, false, true};
 ghost use Rattle.std.specs.Fmt.{decimal};
-ghost use Rattle.tx_lines.specs.Schedule.{IsNoStep};
 ghost use Rattle.tx_translate.specs.Names.{is_name};
 ghost use Rattle.tx_shell.specs.Answers.{ask_text, lets_go, FitsAsk, IsNoAsk, IsOfName, IsOfNumbers, IsOfWords};
-ghost use Rattle.tx_shell.specs.Pieces.{IsNoPiece};
 ghost use Rattle.tx_shell.specs.declared.lines.asks.Ask.{Ask};
 ghost use Rattle.tx_shell.specs.declared.lines.versions.TextVersion.{TextVersion as TheVersion};
 
@@ -171,8 +169,8 @@ fn read_numbered(line: &[u8]) -> Option<Ask<'static>>
     Some(Ask::HoldsDesc(DescNo(number)))
 }
 
-/// The name that words give to a process, its number first. Nothing where they give none, and in the
-/// first two versions.
+/// The name that words give to a process, its number first. Nothing where they give none, and in
+/// the first two versions.
 fn read_name(version: TextVersion, words: &[u8]) -> Option<Ask<'_>>
     ensures found { IfSome result (λ ask. codes "name " ++ words.now ≡ ask_text ask) }
     ensures fits { IfSome result (FitsAsk version) }

@@ -77,8 +77,8 @@ fn spelled_line<'a>(
     }
 }
 
-/// What a line of version 3 means: after `try` and `why` a step as a line of its own, and itself where it
-/// gives a name to a process. Nothing where it has no word.
+/// What a line of version 3 means: after `try` and `why` a step as a line of its own, and itself
+/// where it gives a name to a process. Nothing where it has no word.
 fn third_words<'a>(
     alloc: Global,
     room: &'a mut Room,

@@ -1,7 +1,7 @@
 //! Reads the header of a session.
 ghost use Rattle.std.specs.Prelude.{◌≡◌, IfOk, IfSome, MatchOption};
 ghost use Rattle.tx_lines.specs.Lines.{FitsHeader};
-ghost use Rattle.tx_shell.specs.Origins.{origin_said, version_of, SaysNoOrigin, SaysOrigin};
+ghost use Rattle.tx_shell.specs.Origins.{origin_said, unsaid_origin, version_of, SaysNoOrigin, SaysOrigin};
 
 use crate::lines::text_of;
 use crate::lines::versions::TextVersion;
@@ -15,6 +15,22 @@ use tx_translate::{Meant, is_third};
 pub struct Opening {
     pub version: TextVersion,
     pub header: Header,
+}
+
+impl Opening {
+    /// As of a session without a header: version 3, with two processes.
+    pub fn unsaid() -> Opening
+        ensures origin { origin_said result ≡ unsaid_origin }
+        ensures fits { FitsHeader result.header }
+    {
+        Opening {
+            version: TextVersion::Three,
+            header: Header {
+                version: Version::Two,
+                count: 2,
+            },
+        }
+    }
 }
 
 /// What a line says as the first line of a schedule. Nothing where it is none.

@@ -84,8 +84,8 @@ fn pid_byte_after(front: &[u8], words: &[u8]) -> Option<(Pid, u8)>
     read_pid_byte(rest_after(front, words)?)
 }
 
-/// The process number and the number below 256 that a text spells with a space between them. Nothing
-/// where it is another text.
+/// The process number and the number below 256 that a text spells with a space between them.
+/// Nothing where it is another text.
 fn read_pid_byte(words: &[u8]) -> Option<(Pid, u8)>
     ensures found { IfSome result (λ r. words.now ≡ two_text r.0.0 r.1) }
     ensures fits { IfSome result (λ r. (r.0.0 < 2 ^ 16) × (r.1 < 2 ^ 8)) }

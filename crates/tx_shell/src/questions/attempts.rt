@@ -22,8 +22,8 @@ pub struct Attempt {
     pub reply: Reply,
 }
 
-/// Of a step that would get this reply, and waits for a child's end: the last step of that child, where
-/// it was refused.
+/// Of a step that would get this reply, and waits for a child's end: the last step of that child,
+/// where it was refused.
 ///
 /// NoMemory where a growth is refused.
 pub fn child_attempt(
@@ -69,7 +69,8 @@ pub fn put_attempt(
     attempt: &Option<Attempt>,
 ) -> Result<(), AllocError>
     ensures { OnOk result (string_bytes text.new ≡ string_bytes text.old
-        ++ attempt_text (named names.entry) (start_of session.now) (history_of (made_of session.now))
+        ++ attempt_text (named names.entry) (start_of session.now)
+        (history_of (made_of session.now))
         attempt.now) }
 {
     let Some(attempt) = attempt else {
@@ -88,7 +89,8 @@ fn put_outcome(
     attempt: &Attempt,
 ) -> Result<(), AllocError>
     ensures { OnOk result (string_bytes text.new ≡ string_bytes text.old
-        ++ outcome_text (named names.entry) (start_of session.now) (history_of (made_of session.now))
+        ++ outcome_text (named names.entry) (start_of session.now)
+        (history_of (made_of session.now))
         attempt.now.step attempt.now.reply) }
 {
     match &attempt.reply {

@@ -145,7 +145,8 @@ fn put_since(
     since: Option<Touch<'_>>,
 ) -> Result<(), AllocError>
     ensures { OnOk result (string_bytes text.new
-        ≡ string_bytes text.old ++ since_text (named names.entry) (option_map numbered since.entry)) }
+        ≡ string_bytes text.old
+        ++ since_text (named names.entry) (option_map numbered since.entry)) }
 {
     match since {
         Some(touch) => {
@@ -164,8 +165,8 @@ pub fn names(session: &Session, step: &Step) -> Objects
     session.machine().footprint(step)
 }
 
-/// The starter of the live transaction that has reserved the object, and of which the process of the
-/// step is no member, if there is one.
+/// The starter of the live transaction that has reserved the object, and of which the process of
+/// the step is no member, if there is one.
 fn other_owner(session: &Session, step: &Step, object: Object) -> Option<Pid>
     ensures { option_map number_of result
         ≡ other_owner (view_at session.now) (process_of step.now) (object_of object) }

@@ -25,7 +25,8 @@ pub struct PipeHolders {
     pub writers: Vec<Holder>,
 }
 
-/// Of which pipe a description is which side, and who has it open, by rising processes and descriptors.
+/// Of which pipe a description is which side, and who has it open, by rising processes and
+/// descriptors.
 #[derive(Drop)]
 pub struct DescHolders {
     pub pipe: PipeNo,
@@ -159,7 +160,8 @@ fn put_desc(text: &mut String, names: Names<'_>, found: &DescHolders) -> Result<
 /// Appends descriptors, or that there are none.
 fn put_named(text: &mut String, names: Names<'_>, holders: &[Holder]) -> Result<(), AllocError>
     ensures { OnOk result
-        (string_bytes text.new ≡ string_bytes text.old ++ named_text (named names.entry) holders.now) }
+        (string_bytes text.new
+        ≡ string_bytes text.old ++ named_text (named names.entry) holders.now) }
 {
     match holders {
         [first, others @ ..] => put_listed(text, names, *first, others),

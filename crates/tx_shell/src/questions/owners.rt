@@ -15,7 +15,8 @@ use tx_journal::Session;
 use tx_lines::{dash, put};
 use tx_waits::Kind;
 
-/// What each live transaction has reserved at the position, a line a transaction, by rising starters.
+/// What each live transaction has reserved at the position, a line a transaction, by rising
+/// starters.
 ///
 /// NoMemory where a growth is refused.
 pub fn list_owners(alloc: Global, session: &Session, names: Names<'_>) -> Result<String, NoMemory>
@@ -95,7 +96,8 @@ fn put_owned(
     kind: Kind,
 ) -> Result<(), AllocError>
     ensures { OnOk result (string_bytes text.new
-        ≡ string_bytes text.old ++ owned_text (named names.entry) (view_of machine.now) starter.0 kind) }
+        ≡ string_bytes text.old
+        ++ owned_text (named names.entry) (view_of machine.now) starter.0 kind) }
 {
     write!(text, " {}", kind.word())?;
     let mut some = false;

@@ -100,7 +100,8 @@ fn put_reason(
 ) -> Result<(), AllocError>
     ensures { OnOk result ((report : List ℕ)
         × (string_bytes text.new ≡ string_bytes text.old ++ report)
-        × ReportsReason (named names.entry) (start_of session.now) (history_of (made_of session.now))
+        × ReportsReason (named names.entry) (start_of session.now)
+        (history_of (made_of session.now))
         step.now attempt.now reply.now report) }
 {
     match reply {

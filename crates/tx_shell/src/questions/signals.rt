@@ -18,9 +18,9 @@ use tx_state_text::error_name;
 use tx_step::TwoAnswers;
 use tx_waits::Kind;
 
-/// Appends a line for each starter of another's live transaction at which a signal of the step has two
-/// answers, by rising starters: the first such signal, how it would be answered now, and how after an
-/// abort.
+/// Appends a line for each starter of another's live transaction at which a signal of the step has
+/// two answers, by rising starters: the first such signal, how it would be answered now, and how
+/// after an abort.
 ///
 /// NoMemory where a growth is refused; some of the lines may then be after the text.
 pub fn put_signals(
@@ -30,7 +30,8 @@ pub fn put_signals(
     step: &Step,
 ) -> Result<(), AllocError>
     ensures { OnOk result (string_bytes text.new ≡ string_bytes text.old
-        ++ signal_lines (named names.entry) (start_of session.now) (history_of (made_of session.now))
+        ++ signal_lines (named names.entry) (start_of session.now)
+        (history_of (made_of session.now))
         step.now) }
 {
     for number in 0..Kind::Processes.limit() {

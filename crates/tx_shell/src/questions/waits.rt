@@ -25,8 +25,8 @@ use tx_json::Holder;
 use tx_reserve::Objects;
 use tx_waits::Kind;
 
-/// Appends the line of what a step waits for: a child's end, a byte in a pipe, or room in one for all
-/// its bytes. Nothing for a step that never waits.
+/// Appends the line of what a step waits for: a child's end, a byte in a pipe, or room in one for
+/// all its bytes. Nothing for a step that never waits.
 ///
 /// Then who has the other side of the pipe open, and could end the wait.
 ///
@@ -69,7 +69,8 @@ fn put_open(
     holders: &Option<Vec<Holder>>,
 ) -> Result<(), AllocError>
     ensures { OnOk result (string_bytes text.new ≡ string_bytes text.old
-        ++ open_by (named names.entry) (end_for side) (option_map (λ held. held.items) holders.now)) }
+        ++ open_by (named names.entry) (end_for side)
+        (option_map (λ held. held.items) holders.now)) }
 {
     match holders {
         Some(holders) => put_holders(text, names, side, holders.as_slice()),

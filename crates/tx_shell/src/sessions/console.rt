@@ -37,9 +37,11 @@ impl<R: BufRead + Drop, W: Write + Drop> Console<R, W> {
     /// Shows how to get help, where it prompts. Answers whether it could.
     pub fn greet(&mut self) -> bool
         ensures { IsTrue result → Continues
-            (traffic_between (R.remaining self.old.reader) (W.contents self.old.writer) self.old.prompts)
+            (traffic_between (R.remaining self.old.reader) (W.contents self.old.writer)
+            self.old.prompts)
             []
-            (traffic_between (R.remaining self.new.reader) (W.contents self.new.writer) self.new.prompts) }
+            (traffic_between (R.remaining self.new.reader) (W.contents self.new.writer)
+            self.new.prompts) }
     {
         !self.prompts || self.show(GREETING)
     }

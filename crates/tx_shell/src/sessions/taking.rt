@@ -25,8 +25,8 @@ enum Next {
 /// Takes a line with its end, and appends its bytes without the end, or as many of them as there is
 /// room for: the others are dropped. Answers whether its end came; if not, the input ended.
 ///
-/// An error where the reader fails, or a growth of memory is refused: some bytes of the line may be gone
-/// then.
+/// An error where the reader fails, or a growth of memory is refused: some bytes of the line may be
+/// gone then.
 pub fn take_line_from<R: BufRead>(reader: &mut R, line: &mut Vec<u8>) -> Result<bool>
     requires { length line.old.items ≤ 514 }
     ensures most { length line.new.items ≤ 514 }
@@ -43,8 +43,8 @@ pub fn take_line_from<R: BufRead>(reader: &mut R, line: &mut Vec<u8>) -> Result<
     Err(Error::from(ErrorKind::TimedOut))
 }
 
-/// Takes what the reader has at hand of a line, up to its end, and appends as much of it as there is
-/// room for.
+/// Takes what the reader has at hand of a line, up to its end, and appends as much of it as there
+/// is room for.
 fn take_part<R: BufRead>(reader: &mut R, line: &mut Vec<u8>) -> Result<Next>
     requires { length line.old.items ≤ 514 }
     ensures most { length line.new.items ≤ 514 }

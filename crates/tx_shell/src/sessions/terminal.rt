@@ -12,8 +12,8 @@ pub enum Got {
 }
 
 /// Where lines come from, and where answers go to. A contract names the traffic, as far as it is
-/// known: all that came and went, in the order in which it did, the bytes that are still to come, and
-/// those that were shown. What is shown to ask for a line, as a prompt, is not in it.
+/// known: all that came and went, in the order in which it did, the bytes that are still to come,
+/// and those that were shown. What is shown to ask for a line, as a prompt, is not in it.
 pub trait Terminal {
     ghost use Rattle.std.specs.Prelude.{ℕ, ◌≤◌, ◌∷◌, [], IsTrue, false, length, take, ◌≡◌};
     ghost use Rattle.tx_shell.specs.Events.{Continues, End, Failure, Line, Text, Traffic};
@@ -27,7 +27,8 @@ pub trait Terminal {
     fn line(&mut self, position: usize, line: &mut Vec<u8>) -> Got
         ensures came { result ≡ got.Line →
             Continues (traffic self.old) (Line line.new.items ∷ []) (traffic self.new) }
-        ensures end { result ≡ got.End → Continues (traffic self.old) (End ∷ []) (traffic self.new) }
+        ensures end { result ≡ got.End →
+            Continues (traffic self.old) (End ∷ []) (traffic self.new) }
         ensures failed { result ≡ got.Failed →
             Continues (traffic self.old) (Failure ∷ []) (traffic self.new) }
         ensures most { result ≡ got.Line → length line.new.items ≤ 514 };
@@ -38,5 +39,6 @@ pub trait Terminal {
         ensures shown { IsTrue result →
             Continues (traffic self.old) (Text text.now ∷ []) (traffic self.new) }
         ensures failed { result ≡ false → (count : ℕ) × (count ≤ length text.now)
-            × Continues (traffic self.old) (Text (take count text.now) ∷ Failure ∷ []) (traffic self.new) };
+            × Continues (traffic self.old) (Text (take count text.now) ∷ Failure ∷ [])
+            (traffic self.new) };
 }
