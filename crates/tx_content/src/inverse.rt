@@ -26,8 +26,8 @@ pub enum Inverse {
     Begun {
         starter: Pid,
     },
-    /// Of a commit: the transaction, whose outbox has what each post changed, how many old parts of its
-    /// log are the last step's own, and whether that handed out a signal.
+    /// Of a commit: the transaction, whose outbox has what each post changed, how many old parts of
+    /// its log are the last step's own, and whether that handed out a signal.
     Committed {
         boxed: BoxedTxn,
         count: usize,

@@ -52,8 +52,8 @@ impl Content {
     }
 
     /// Puts an inverse of a step outside with an empty log into a place: with the room of the log
-    /// that is there, or else with that of an earlier one, if some was kept. It takes no memory, and
-    /// the content stays as it is.
+    /// that is there, or else with that of an earlier one, if some was kept. It takes no memory,
+    /// and the content stays as it is.
     #[inline(always)] // each step outside puts one
     fn put_fresh(&mut self, alloc: Global, place: &mut Inverse)
         ensures content { self.new ≡ self.old }

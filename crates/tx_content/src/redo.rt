@@ -4,9 +4,9 @@ ghost use Rattle.tx_change.specs.Exchange.{applied, exchanged, AreNamed};
 ghost use Rattle.tx_change.specs.Stacks.{below_top, top_of};
 ghost use Rattle.tx_change.specs.declared.change.Change.{Change};
 ghost use Rattle.tx_content.specs.Content.{IsShaped};
-ghost use Rattle.tx_content.specs.Crossings.{inverse_at, inverse_of, undone_of, moved_by_turn, moved_over, HoldsBack, HoldsForward};
+ghost use Rattle.tx_content.specs.Crossings.{inverse_at, inverse_of, undone_of, moved_by_turn, moved_over, HoldsBack, HoldsForward, Remakes, Reverses};
 ghost use Rattle.tx_content.specs.Inverses.{HasStarter};
-ghost use Rattle.tx_content.specs.Redone.{after_outside, post_in, reposted_in, step_again, with_last, GoesAgain, IsTakenBack, Redoes, TakesBack};
+ghost use Rattle.tx_content.specs.Redone.{after_outside, post_in, reposted_in, step_again, with_last, GoesAgain, Redoes, TakesBack};
 ghost use Rattle.tx_content.specs.declared.content.Content.{Content};
 ghost use Rattle.tx_content.specs.declared.crossing.Crossing.TheVariants.{Back, Forward};
 ghost use Rattle.tx_content.specs.declared.inverse.Inverse.{Inverse as TheInverse};
@@ -44,14 +44,8 @@ impl Content {
     pub fn redo(&mut self, crossing: &mut Crossing, stack: &mut Vec<Change>) -> Result<(), NoMemory>
         requires { HoldsForward crossing.old
             (λ undone. GoesAgain self.old undone stack.old.items) }
-        ensures made { (after : Content) (inverse : TheInverse) →
-            HoldsForward crossing.old
-            (λ undone. Redoes self.old undone stack.old.items after inverse) →
-            OnOk result (self.new ≡ after) }
-        ensures back { IsShaped self.old → (after : Content) (rest : List Change) →
-            HoldsForward crossing.old
-            (λ undone. IsTakenBack self.old undone stack.old.items after rest) →
-            OnOk result (HoldsBack crossing.new (TakesBack self.old self.new)) }
+        ensures made { Remakes self.old crossing.old stack.old.items result self.new }
+        ensures back { Reverses self.old crossing.old stack.old.items result crossing.new self.new }
         ensures moved { moved_over crossing.new ≡ moved_over crossing.old }
         ensures stack { OnOk result
             (stack.new.items ≡ below_top (moved_over crossing.old) stack.old.items) }
@@ -107,14 +101,8 @@ impl Content {
         requires forward { inverse_at crossing.old ≡ None }
         requires goes { HoldsForward crossing.old
             (λ undone. GoesAgain self.old undone stack.old.items) }
-        ensures made { (after : Content) (inverse : TheInverse) →
-            HoldsForward crossing.old
-            (λ undone. Redoes self.old undone stack.old.items after inverse) →
-            OnOk result (self.new ≡ after) }
-        ensures back { IsShaped self.old → (after : Content) (rest : List Change) →
-            HoldsForward crossing.old
-            (λ undone. IsTakenBack self.old undone stack.old.items after rest) →
-            OnOk result (HoldsBack crossing.new (TakesBack self.old self.new)) }
+        ensures made { Remakes self.old crossing.old stack.old.items result self.new }
+        ensures back { Reverses self.old crossing.old stack.old.items result crossing.new self.new }
         ensures moved { moved_over crossing.new ≡ moved_over crossing.old }
         ensures stack { OnOk result
             (stack.new.items ≡ below_top (moved_over crossing.old) stack.old.items) }

@@ -30,8 +30,8 @@ pub enum Undone {
         boxed: BoxedTxn,
         mark: Option<Mark>,
     },
-    /// Of a commit: how many changes of the stack are the last step's own, and the signal that it handed
-    /// out.
+    /// Of a commit: how many changes of the stack are the last step's own, and the signal that it
+    /// handed out.
     Committed {
         starter: Pid,
         count: usize,

@@ -4,9 +4,9 @@
 //!
 //! # The type
 //!
-//! `Machine` is a content of tx_content in a private field. That it is as steps leave it (`IsContent`)
-//! is the type's invariant, so calls require nothing of a machine; those that take an inverse
-//! require that it fits (`LeadsBack`, `LeadsOn`), which no machine checks.
+//! `Machine` is a content of tx_content in a private field. That it is as steps leave it
+//! (`IsContent`) is the type's invariant, so calls require nothing of a machine; those that take an
+//! inverse require that it fits (`LeadsBack`, `LeadsOn`), which no machine checks.
 //!
 //! # Its calls
 //!

@@ -53,11 +53,11 @@ impl Model for Machine {
 impl Machine {
     /// Makes a step. Answers its reply, and its inverse if it was accepted.
     ///
-    /// A refused step changes nothing. `NoMemory` comes only where nothing else refuses the step, and
-    /// never to a member's sys_xabort or to the kernel's abort.
+    /// A refused step changes nothing. `NoMemory` comes only where nothing else refuses the step,
+    /// and never to a member's sys_xabort or to the kernel's abort.
     ///
-    /// The inverse changes only what the step names: objects of its footprint, the processes that its
-    /// sends go to, and, where it ends a transaction, what that one reserved.
+    /// The inverse changes only what the step names: objects of its footprint, the processes that
+    /// its sends go to, and, where it ends a transaction, what that one reserved.
     pub fn step(&mut self, alloc: Global, step: &Step) -> (Reply, Option<Inverse>)
         ensures answer { (result.0 ≡ No Refusal.NoMemory)
             ⊎ (answer (view_of self.old) step.now ≡ result.0) }

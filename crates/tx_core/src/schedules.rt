@@ -82,8 +82,9 @@ pub fn run_wide(alloc: Global, count: u16, steps: &[Step]) -> Result<Ran, NoMemo
 /// Runs a schedule as `run` does, on a machine with processes 1 to `count`, which is 1 to 64, and
 /// keeps what was run if memory is refused: for a caller that shows it, or goes on from there.
 ///
-/// `stopped` is then the number, counted from 0, of the step that answered `NoMemory` or whose place
-/// in the history was refused. That step changed nothing, and `ran` is the run of the steps before it.
+/// `stopped` is then the number, counted from 0, of the step that answered `NoMemory` or whose
+/// place in the history was refused. That step changed nothing, and `ran` is the run of the steps
+/// before it.
 ///
 /// `NoMemory` only if the machine is refused, before the first step.
 pub fn run_kept(alloc: Global, count: u16, steps: &[Step]) -> Result<Kept, NoMemory>

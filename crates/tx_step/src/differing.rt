@@ -1,6 +1,5 @@
 //! Signals of a step that are answered differently now than after an abort.
 ghost use Rattle.std.specs.Prelude.{◌≡◌, false, true};
-ghost use Rattle.tx_kernel.specs.Plans.{sent_at_once};
 ghost use Rattle.tx_content.specs.Content.{now_of, view_of};
 ghost use Rattle.tx_model.specs.Events.{Event, effect};
 ghost use Rattle.tx_model.specs.Footprints.{footprint};
@@ -133,8 +132,8 @@ fn difference_at(
     faces.difference(starter, first, held)
 }
 
-/// An event has a signal to a starter with two answers exactly where the definitions say that one of its
-/// posts has.
+/// An event has a signal to a starter with two answers exactly where the definitions say that one
+/// of its posts has.
 pub fn differences_are_found()
     ensures { DifferencesAreFound }
 {}

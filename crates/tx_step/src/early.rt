@@ -89,8 +89,9 @@ fn is_held_by_kill(proc: &Proc, delivers_kill: bool) -> bool
     has(proc.pending.standard(), SIGKILL) && !delivers_kill
 }
 
-/// Why a member of a live transaction makes no step, whatever the step is: Doomed where the transaction
-/// is doomed, then Parked where the member has ended its part. Nothing for a process that is no member.
+/// Why a member of a live transaction makes no step, whatever the step is: Doomed where the
+/// transaction is doomed, then Parked where the member has ended its part. Nothing for a process
+/// that is no member.
 fn refusal_of_member(content: &Content, pid: Pid) -> Option<Refusal>
     requires { IsKept (content_of content.now) }
     ensures { result ≡ member_refusal (view_of content.now) (slot_at content.now.marks pid.0) }

@@ -5,10 +5,11 @@
 //!
 //! `take_call` and `take_delivery` ask in the order of the definitions: early refusals, role,
 //! footprint, who is in the way. If nothing refuses the step (`IsLetThrough`), the function of its
-//! role gives tx_content the act (`Act`; a call of transactions is an answer), and shows what tx_content
-//! requires: nobody else owns what the event reads and writes; a fork's child has a number in
-//! range; a step that commits ends its process's part, holds only signals, and its own posts have
-//! no error. Laws of tx_laws and tx_txn then keep the content as steps leave it (`IsContent`).
+//! role gives tx_content the act (`Act`; a call of transactions is an answer), and shows what
+//! tx_content requires: nobody else owns what the event reads and writes; a fork's child has a
+//! number in range; a step that commits ends its process's part, holds only signals, and its own
+//! posts have no error. Laws of tx_laws and tx_txn then keep the content as steps leave it
+//! (`IsContent`).
 //!
 //! # Before a step is made
 //!

@@ -33,7 +33,8 @@ pub enum StepRole {
     Begins(bool),
     /// It is a step of a member, after which the transaction of that starter is live.
     Inside(Pid, Progress),
-    /// It ends the part of the last member whose part is open: the transaction of that starter commits.
+    /// It ends the part of the last member whose part is open: the transaction of that starter
+    /// commits.
     Commits(Pid),
     /// A member aborts the transaction of that starter.
     Aborts(Pid),

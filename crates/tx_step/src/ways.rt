@@ -129,7 +129,8 @@ fn way_of_quiet_call(
     content.owners.conflict(footprint, starter_of(content, pid))
 }
 
-/// The same as `way_of_call` of a call that aborts nothing, and may concern others than its process.
+/// The same as `way_of_call` of a call that aborts nothing, and may concern others than its
+/// process.
 fn way_of_others_call(
     content: &Content,
     pid: Pid,
@@ -190,7 +191,8 @@ pub fn is_running(content: &Content, pid: Pid) -> bool
     }
 }
 
-/// The process of a number, which runs, with the transaction that it is a member of. It takes no memory.
+/// The process of a number, which runs, with the transaction that it is a member of. It takes no
+/// memory.
 pub fn actor_of<'a>(content: &'a Content, pid: Pid) -> Actor<'a>
     requires content { IsContent content.now }
     requires running { IsRunning (slot_at content.now.parts.procs pid.0) }

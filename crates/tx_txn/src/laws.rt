@@ -75,10 +75,10 @@ pub fn posts_by_faces()
     ensures queued { PostLeavesQueued }
 {}
 
-/// The answers of a content of logs and kept signals. A live transaction is doomed if SIGKILL is kept as
-/// pending. Whether posts have two answers at its starter depends on the starter's ids, on whether it has
-/// ended, and on how many signals are queued, each as it is now and as it is kept; and so does who is in
-/// the way of an event, and the least of these.
+/// The answers of a content of logs and kept signals. A live transaction is doomed if SIGKILL is
+/// kept as pending. Whether posts have two answers at its starter depends on the starter's ids, on
+/// whether it has ended, and on how many signals are queued, each as it is now and as it is kept;
+/// and so does who is in the way of an event, and the least of these.
 pub fn answers_of_faces()
     ensures doom { DoomIsPending }
     ensures two_answers { TwoAnswersAreOfFaces }

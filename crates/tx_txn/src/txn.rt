@@ -133,7 +133,8 @@ impl Txn {
         self.objects = before;
     }
 
-    /// Reserves what was given up: these objects are its own then. Answers what was reserved before.
+    /// Reserves what was given up: these objects are its own then. Answers what was reserved
+    /// before.
     pub fn take_again(&mut self, owners: &mut Reservations, objects: Objects) -> Objects
         ensures before { result ≡ self.old.objects }
         ensures owners { (o : Object) →
