@@ -26,8 +26,8 @@ pub enum Answer {
 }
 
 impl Answer {
-    /// Puts the answer at the front of a buffer that has room for all of it, and its size in place of
-    /// what the size was. Answers its status; a buffer without the room is left as it was.
+    /// Puts the answer at the front of a buffer that has room for all of it, and its size in place
+    /// of what the size was. Answers its status; a buffer without the room is left as it was.
     pub fn hand_out(&self, buffer: &mut [u8], size: &mut usize) -> i32
         ensures { HandsOut self.now buffer.old result buffer.new size.new }
     {

@@ -1,5 +1,4 @@
 //! What whole texts are answered.
-ghost use Rattle.std.specs.Prelude.{◌≡◌};
 ghost use Rattle.tx_script.specs.Grammars.{schedules, walks};
 ghost use Rattle.tx_answers.specs.Texts.{IsAnswered, IsChecked};
 

@@ -1,6 +1,6 @@
 //! One part of the kernel, and its old or new value.
 ghost use Rattle.std.specs.Prelude.{◌≡◌};
-ghost use Rattle.tx_change.specs.Exchange.{parts_after, change_after, object_of, IsNamed};
+ghost use Rattle.tx_change.specs.Exchange.{parts_after, change_after, IsNamed};
 
 use crate::parts::Parts;
 use crate::pipes::PipePart;

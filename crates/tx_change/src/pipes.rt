@@ -1,7 +1,7 @@
 //! The pipes by number.
 ghost use Rattle.std.specs.Option.{option_copied};
 ghost use Rattle.std.specs.Bool.{OnFalse, OnTrue};
-ghost use Rattle.std.specs.Prelude.{◌≡◌, ◌↔◌, ◌<◌, ◌≤◌, ◌+◌, ◌++◌, None, IfOk, IsTrue, length, replicate, option_map, slice_index_or, slice_set};
+ghost use Rattle.std.specs.Prelude.{◌≡◌, ◌↔◌, ◌<◌, ◌≤◌, ◌+◌, ◌++◌, None, IfOk, IsTrue, length, replicate, slice_index_or, slice_set};
 ghost use Rattle.tx_change.specs.Pipes.{piped, piped_in, part_of, part_in};
 ghost use Rattle.tx_base.specs.declared.limits.TheConstants.{PIPE_BYTES};
 

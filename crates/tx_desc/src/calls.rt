@@ -1,6 +1,6 @@
 //! The calls that change what descriptors name, and the counts of names with them. Each is its plan,
 //! put in place.
-ghost use Rattle.std.specs.Prelude.{◌≡◌, ◌≢◌, ◌<◌, List, [], ◌∷◌, None, Some, IfOk, OnErr, slice_index_or};
+ghost use Rattle.std.specs.Prelude.{◌≡◌, ◌≢◌, ◌<◌, List, ◌∷◌, None, Some, IfOk, OnErr, slice_index_or};
 ghost use Rattle.tx_model.specs.Book.{pipe as pipe_rule, dup, dup2, close, set_nonblock, description_at};
 ghost use Rattle.tx_model.specs.Descriptors.{descriptor};
 ghost use Rattle.tx_model.specs.Forms.{Caller};

@@ -10,8 +10,8 @@ use std::alloc::AllocError;
 use tx_base::Reply;
 use tx_state_text::{error_name, put_named_reply, put_reply};
 
-/// Whether a reply is the expected one: as a report spells it, or an error with its name in place of its
-/// number or after it. `spelled` is room for the spelling of a reply, whatever it has.
+/// Whether a reply is the expected one: as a report spells it, or an error with its name in place
+/// of its number or after it. `spelled` is room for the spelling of a reply, whatever it has.
 ///
 /// The only error is that a growth of memory was refused.
 pub fn agrees(spelled: &mut String, expected: &[u8], reply: &Reply) -> Result<bool, AllocError>

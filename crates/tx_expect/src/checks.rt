@@ -22,8 +22,8 @@ committed 4:10:3, aborted 201, out 6869, out -, no N8 2 or no N9\n";
 /// that is empty, and the text is a schedule, writes what is wrong with its expectations and its
 /// names. Answers whether nothing is.
 ///
-/// `TooLong` at line 0 where the text has more than 1,048,576 bytes, and `Reader` and `NoMemory`: nothing
-/// is written then. `Writer`: a front of the report is.
+/// `TooLong` at line 0 where the text has more than 1,048,576 bytes, and `Reader` and `NoMemory`:
+/// nothing is written then. `Writer`: a front of the report is.
 pub fn check_too<S: Source, W: Sink>(
     alloc: Global,
     source: &mut S,
@@ -57,8 +57,8 @@ fn report_too(alloc: Global, text: &[u8]) -> Result<String, NoMemory>
     Ok(own)
 }
 
-/// What is wrong with the expectations and the names of a text that is read as a schedule: a line for
-/// each.
+/// What is wrong with the expectations and the names of a text that is read as a schedule: a line
+/// for each.
 fn own_troubles(alloc: Global, text: &[u8]) -> Result<String, AllocError> {
     let outline = Outline::of(text);
     let mut report = String::new(alloc);

@@ -6,8 +6,8 @@ use crate::outcomes::expect_text;
 use std::alloc::Global;
 use tx_lines::{Fault, Sink, Source, read_whole, write_whole};
 
-/// Reads the text of a schedule to its end, makes its steps, and writes the report of `expect_text`. Answers
-/// whether some expectations are met, and none is not.
+/// Reads the text of a schedule to its end, makes its steps, and writes the report of
+/// `expect_text`. Answers whether some expectations are met, and none is not.
 ///
 /// Nothing is written where the fault is another one than `Writer`.
 pub fn expect<S: Source, W: Sink>(

@@ -1,5 +1,5 @@
 //! Judges the lines of a text: whether the reply to each step is the expected one.
-ghost use Rattle.std.specs.Prelude.{◌≡◌, ◌+◌, ◌-◌, ◌<◌, ◌≤◌, ◌^◌, ◌++◌, ℕ, List, IfOk, IfSome, OnOk, length, option_map};
+ghost use Rattle.std.specs.Prelude.{◌≡◌, ◌+◌, ◌-◌, ◌<◌, ◌≤◌, ◌^◌, ℕ, List, IfOk, IfSome, OnOk, length, option_map};
 ghost use Rattle.tx_expect.specs.Lines.{after_line, judged, judged_stray, progress_of, step_report, step_verdict, stray, total};
 ghost use Rattle.tx_expect.specs.Outcomes.{after_lines, after_stop, first_progress, is_at_state, judged_state, state_lines, IsOutcome};
 ghost use Rattle.tx_expect.specs.States.{state_difference};

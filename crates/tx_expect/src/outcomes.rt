@@ -1,8 +1,7 @@
 //! Reads a schedule, makes its steps, and judges the replies by what the text expects.
 ghost use Rattle.tx_expect.specs.Outcomes.{whole_progress, ExpectsText, IsOutcome};
-ghost use Rattle.std.specs.Prelude.{◌≡◌, ◌≤◌, IfOk, [], length};
+ghost use Rattle.std.specs.Prelude.{◌≡◌, IfOk, []};
 ghost use Rattle.tx_content.specs.Content.{view_of};
-ghost use Rattle.tx_lines.specs.declared.read.schedule.Schedule.{Schedule as TheSchedule};
 ghost use Rattle.tx_model.specs.Schedules.{answers_of};
 ghost use Rattle.tx_script.specs.Report.{last_view, start_state};
 
@@ -22,8 +21,8 @@ pub struct Outcome {
     pub is_met: bool,
 }
 
-/// What the expectations come to of the schedule that a text of any version spells, or means. Only texts
-/// of version 3 have any.
+/// What the expectations come to of the schedule that a text of any version spells, or means. Only
+/// texts of version 3 have any.
 ///
 /// A fault where the text can't be read, or a growth of memory is refused, as `replay_text` has it.
 pub fn expect_text(alloc: Global, text: &[u8]) -> Result<Outcome, Fault>

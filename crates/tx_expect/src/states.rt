@@ -10,8 +10,8 @@ use crate::tallies::Verdict;
 use std::alloc::AllocError;
 use tx_translate::split_line;
 
-/// Compares the lines of a state's text, after its first, with those that the lines of a text expect, after
-/// the line of that number. Reports the first difference.
+/// Compares the lines of a state's text, after its first, with those that the lines of a text
+/// expect, after the line of that number. Reports the first difference.
 ///
 /// The only error is that a growth of memory was refused.
 pub fn put_state_difference(
@@ -24,7 +24,8 @@ pub fn put_state_difference(
     ensures verdict { IfOk result (λ verdict. verdict ≡ state_verdict
         (state_difference at (own_lines lines.now) (at + 1) (state_lines state.now))) }
     ensures reports { IfOk result (λ verdict. string_bytes report.new ≡ string_bytes report.old
-        ++ state_report (state_difference at (own_lines lines.now) (at + 1) (state_lines state.now))) }
+        ++ state_report
+        (state_difference at (own_lines lines.now) (at + 1) (state_lines state.now))) }
 {
     let mut to_come = after_first(state);
     let mut number = at + 1;

@@ -19,7 +19,8 @@ use tx_core::Machine;
 /// latter again with the stack of their changes, and for how many entries there is room.
 #[derive(Drop)]
 pub(crate) struct Crossings {
-    /// The place of each entry that is made, the oldest first, and of those after them that are kept.
+    /// The place of each entry that is made, the oldest first, and of those after them that are
+    /// kept.
     places: Vec<Crossing>,
     /// How many entries are made.
     made: usize,
@@ -90,7 +91,8 @@ impl Crossings {
         Ok(())
     }
 
-    /// Makes room to keep what makes the entries after this position again, once they are taken back.
+    /// Makes room to keep what makes the entries after this position again, once they are taken
+    /// back.
     ///
     /// NoMemory where a growth is refused.
     pub fn reserve_forward(&mut self, position: usize) -> Result<(), NoMemory>

@@ -23,8 +23,8 @@ use tx_base::NoMemory;
 pub struct Moved {
     /// The numbers of all entries, in the order of that history.
     pub entries: Vec<usize>,
-    /// Whether the transaction may count as one moment: its starter does not look at its signals in it,
-    /// and nothing that is posted with a step of it goes to the starter.
+    /// Whether the transaction may count as one moment: its starter does not look at its signals in
+    /// it, and nothing that is posted with a step of it goes to the starter.
     pub one_moment: bool,
 }
 

@@ -73,8 +73,8 @@ fn note_of_delivery(content: &Content, pid: Pid, signo: Signo) -> Note
     note_by(content, pid, role, true, &first)
 }
 
-/// What the kernel's abort is to the transaction of the starter: it posts nothing, and nobody looks at
-/// signals.
+/// What the kernel's abort is to the transaction of the starter: it posts nothing, and nobody looks
+/// at signals.
 fn note_of_kernel_abort(content: &Content, starter: Pid) -> Note
     ensures { IsNoteOn (view_of content.now) (KernelAbort starter) result }
 {

@@ -1,5 +1,5 @@
 //! Parts the entries of a history by the notes of its steps.
-ghost use Rattle.std.specs.Prelude.{◌≡◌, ◌++◌, ◌∷◌, ◌-◌, [], ◌&&◌, IfOk, OnOk, option_map, reverse, length};
+ghost use Rattle.std.specs.Prelude.{◌≡◌, ◌++◌, ◌∷◌, ◌-◌, ◌&&◌, IfOk, OnOk, option_map, reverse};
 ghost use Rattle.tx_journal.specs.Moved.{numbers_above};
 ghost use Rattle.tx_journal.specs.Noted.{begins_its, commit_of, is_silent_by, is_starter, noted_back, parted_by};
 ghost use Rattle.tx_reserve.specs.Reservations.{number_of};

@@ -1,6 +1,6 @@
 //! Lists the pieces of a state: all, or those that a step may change.
 ghost use Rattle.std.specs.List.{filter};
-ghost use Rattle.std.specs.Prelude.{◌≡◌, ◌<◌, ◌≤◌, ◌++◌, IfOk, OnOk};
+ghost use Rattle.std.specs.Prelude.{◌≡◌, ◌<◌, ◌++◌, IfOk, OnOk};
 ghost use Rattle.tx_base.specs.declared.steps.Step.{Step as TheStep};
 ghost use Rattle.tx_core.specs.Machines.{IsWidth};
 ghost use Rattle.tx_journal.specs.Reach.{is_reached, reached_pieces};
@@ -82,8 +82,8 @@ fn put_all(found: &mut Vec<Piece>, width: u16, row: Row) -> Result<(), AllocErro
     Ok(())
 }
 
-/// The pieces of a machine's state that a step may change, in the order of the state's text. It goes
-/// over all numbers, and prints nothing.
+/// The pieces of a machine's state that a step may change, in the order of the state's text. It
+/// goes over all numbers, and prints nothing.
 ///
 /// NoMemory where a growth is refused.
 pub(crate) fn list_reached(

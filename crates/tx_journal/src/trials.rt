@@ -64,8 +64,8 @@ impl Session {
         list_reached(alloc, self.machine(), step)
     }
 
-    /// The reply that a step would get at the position. It is made and taken back: the session is as it
-    /// was.
+    /// The reply that a step would get at the position. It is made and taken back: the session is
+    /// as it was.
     ///
     /// `NoMemory` where a growth is refused.
     pub fn reply_to(&mut self, alloc: Global, step: &Step) -> Result<Reply, NoMemory>

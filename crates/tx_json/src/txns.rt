@@ -1,5 +1,5 @@
 //! Appends a live transaction.
-ghost use Rattle.std.specs.Prelude.{◌≡◌, ◌≤◌, ◌++◌, OnOk, codes, false, map, true};
+ghost use Rattle.std.specs.Prelude.{◌≡◌, ◌++◌, OnOk, false, map, true};
 ghost use Rattle.tx_base.specs.Slots.{slot_at};
 ghost use Rattle.tx_json.specs.Each.{each_tokens};
 ghost use Rattle.tx_json.specs.Txns.{held_item, held_list, member_item, members_list, txn_item, txn_lists};
@@ -49,8 +49,8 @@ fn put_lists(
     put_held(writer, sendings)
 }
 
-/// Appends the members of a starter's transaction that have ended their part, or those that have not,
-/// by rising number.
+/// Appends the members of a starter's transaction that have ended their part, or those that have
+/// not, by rising number.
 fn put_members(
     writer: &mut LineWriter,
     name: &str,

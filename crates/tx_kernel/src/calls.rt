@@ -132,7 +132,8 @@ impl Actor<'_> {
     ///
     /// Refuses with BadNumber where a number that the call chooses is out of range or chosen twice,
     /// with NumberTaken where one is in use, with Wait where a read, a write or a waitpid waits,
-    /// and with NoMemory. The log is then as it was.
+    /// and with NoMemory. The log is then as it was; in the place of what it sends there may be
+    /// anything.
     pub fn plan_call(
         &self,
         alloc: Global,
@@ -165,7 +166,7 @@ impl Actor<'_> {
     /// Plans the delivery of a pending signal, as `plan_call` does a call.
     ///
     /// Refuses with NotDeliverable, Deferred and FramesFull, as its rule does, and with NoMemory.
-    /// The log is then as it was.
+    /// What that leaves is as of `plan_call`.
     pub fn plan_delivery(
         &self,
         alloc: Global,

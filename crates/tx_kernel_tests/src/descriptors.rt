@@ -1,5 +1,5 @@
-//! The calls of a process on its descriptors, and their plans. What the calls require is had from right
-//! counts alone.
+//! The calls of a process on its descriptors, and their plans. What the calls require is had from
+//! right counts alone.
 ghost use Rattle.std.specs.Prelude.{ℕ, ◌≤◌, [], ◌∷◌, Option, IfOk};
 ghost use Rattle.tx_desc.specs.Counts.{Agrees, HasRoom, IsBacked};
 ghost use Rattle.tx_desc.specs.Places.{named_in};

@@ -39,7 +39,8 @@ fn copies_of_pages_stay_apart(rt: HostRuntime) -> Result<(), Fail> {
     Ok(())
 }
 
-/// Whether the plans of a map of page 1, of a protect and of an unmap of page 0 are what they are to be.
+/// Whether the plans of a map of page 1, of a protect and of an unmap of page 0 are what they are
+/// to be.
 fn are_planned(alloc: Global, space: &Space) -> Result<bool, PageError> {
     let mapped = space.plan_map(alloc, 1)?;
     let closed = space.plan_protect(0, false)?;

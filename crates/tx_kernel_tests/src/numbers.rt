@@ -1,5 +1,5 @@
-//! The numbers of errors and of signals, those of Linux; the slots of a table; and how large a change
-//! and an inverse are.
+//! The numbers of errors and of signals, those of Linux; the slots of a table; and how large a
+//! change and an inverse are.
 use bitflags::Flags;
 use std::mem;
 use std::test::Fail;

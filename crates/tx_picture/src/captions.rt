@@ -1,5 +1,5 @@
-//! What is written beside rows and above columns: the steps as their author wrote them, and the names
-//! of processes.
+//! What is written beside rows and above columns: the steps as their author wrote them, and the
+//! names of processes.
 ghost use Rattle.std.specs.Option.{option_copied};
 ghost use Rattle.std.specs.Prelude.{◌≡◌, ◌≤◌, ◌++◌, IfErr, IfOk, OnOk, find, option_map};
 ghost use Rattle.tx_lines.specs.Lines.{FitsHeader};
@@ -88,8 +88,8 @@ impl<'a> Captions<'a> {
         instance(self.start, self.births.as_slice(), process, position)
     }
 
-    /// Whether the process of a number that is there after so many steps is another one than before the
-    /// first step, or than the first one.
+    /// Whether the process of a number that is there after so many steps is another one than before
+    /// the first step, or than the first one.
     pub fn is_anew(&self, process: Pid, position: usize) -> bool
         ensures { result ≡ is_anew (captioned_as self.now) process.0 position }
     {

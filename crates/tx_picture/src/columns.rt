@@ -14,8 +14,8 @@ use std::alloc::{AllocError, Global};
 use tx_base::Pid;
 use tx_core::maker;
 
-/// The processes that have a column, from the left to the right: in the order in which they come, and
-/// then those that never run, and whose steps are refused or to which only something leads.
+/// The processes that have a column, from the left to the right: in the order in which they come,
+/// and then those that never run, and whose steps are refused or to which only something leads.
 pub(crate) fn columns_of(alloc: Global, drawing: &Drawing) -> Result<Vec<Pid>, AllocError>
     ensures { IfOk result (λ columns. columns.items ≡ columns_of (drawn_as drawing.now)) }
 {

@@ -38,13 +38,14 @@ pub fn picture<S: Source, W: Sink>(
     write_whole(sink, picture.as_bytes())
 }
 
-/// The picture of an excerpt of the schedule that a text spells, or means, as `picture` writes it. The
-/// text may be of any version; of version 3 each step is shown as its author wrote it, and each process
-/// has its name. What is open at the end of the excerpt is drawn as open. A stretch that is open at its
-/// start, of a process or of a transaction's box, begins at the top edge, and so does what is read in the
-/// excerpt and was written before. Signals of the steps before it are left out. An excerpt that begins
-/// after the last step has no row. The text of a picture is a well-formed document of XML: one element
-/// holds all, each that is opened is closed, none has an attribute twice, and each text is escaped.
+/// The picture of an excerpt of the schedule that a text spells, or means, as `picture` writes it.
+/// The text may be of any version; of version 3 each step is shown as its author wrote it, and each
+/// process has its name. What is open at the end of the excerpt is drawn as open. A stretch that is
+/// open at its start, of a process or of a transaction's box, begins at the top edge, and so does
+/// what is read in the excerpt and was written before. Signals of the steps before it are left out.
+/// An excerpt that begins after the last step has no row. The text of a picture is a well-formed
+/// document of XML: one element holds all, each that is opened is closed, none has an attribute
+/// twice, and each text is escaped.
 ///
 /// A fault where the text can't be read, or a growth of memory is refused, as `picture` reports it.
 #[tactic(auto, unfolding(crate::specs::Grammars::pictures))]

@@ -13,8 +13,8 @@ pub struct Drawing {
     pub rows: Vec<Row>,
     /// Where each process runs, in the order in which they come.
     pub lanes: Vec<Span>,
-    /// Where each process is a member of a transaction, in the order in which they join. The box of a
-    /// transaction is the stretches of its members.
+    /// Where each process is a member of a transaction, in the order in which they join. The box of
+    /// a transaction is the stretches of its members.
     pub strips: Vec<Span>,
     /// The writes to pipes so far, the newest first.
     pub written: Vec<Written>,

@@ -1,8 +1,8 @@
 //! Excerpts: the steps of a schedule that a picture shows, and what there is to draw of them.
-ghost use Rattle.std.specs.Prelude.{◌≡◌, ◌-◌, ◌≤◌, IfOk, OnOk, filter, length, map, min, option_map, take};
+ghost use Rattle.std.specs.Prelude.{◌≡◌, ◌-◌, ◌≤◌, IfOk, OnOk, filter, length, map, min, take};
 ghost use Rattle.tx_picture.specs.Drawn.{drawn_as};
 ghost use Rattle.tx_picture.specs.Excerpts as spec;
-ghost use Rattle.tx_picture.specs.Excerpts.{end_after, is_read_after, is_span_after, is_wait_after, passage_after, reaches_past, span_after, wait_after};
+ghost use Rattle.tx_picture.specs.Excerpts.{end_after, is_read_after, is_span_after, is_wait_after, passage_after, span_after, wait_after};
 
 use crate::drawing::Drawing;
 use crate::passages::Passage;

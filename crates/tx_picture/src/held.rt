@@ -22,7 +22,8 @@ pub(crate) struct Place {
     pub to: u64,
 }
 
-/// Appends a signal: an arrow to its target, which is bent to the commit where a transaction holds it.
+/// Appends a signal: an arrow to its target, which is bent to the commit where a transaction holds
+/// it.
 #[tactic(auto, unfolding(crate::specs::Held::signal_text))]
 pub(crate) fn put_signal(
     text: &mut String,
@@ -90,7 +91,8 @@ fn put_sent(text: &mut String, place: Place, bottom: u64, aborted: bool) -> Resu
     )
 }
 
-/// Where the transaction ends that a process is a member of in a row; nothing where it does not end.
+/// Where the transaction ends that a process is a member of in a row; nothing where it does not
+/// end.
 fn end_at(strips: &[Span], process: Pid, row: u16) -> Option<End>
     ensures { result ≡ end_at strips.now process.0 row }
 {

@@ -19,8 +19,8 @@ pub(crate) struct Life {
     pub name: usize,
 }
 
-/// The processes that names are for, where so many processes are there at the start. Of several names
-/// for one process the last one counts.
+/// The processes that names are for, where so many processes are there at the start. Of several
+/// names for one process the last one counts.
 pub(crate) fn lives_of(
     alloc: Global,
     start: u16,

@@ -1,6 +1,6 @@
-//! What goes through pipes: the writes whose bytes may be in one, and which read takes bytes of which
-//! write. The bytes that a pipe holds are the last so many that were written to it, and a read takes
-//! the first of them.
+//! What goes through pipes: the writes whose bytes may be in one, and which read takes bytes of
+//! which write. The bytes that a pipe holds are the last so many that were written to it, and a
+//! read takes the first of them.
 ghost use Rattle.std.specs.Prelude.{◌≡◌, IfOk, OnOk, map};
 ghost use Rattle.tx_picture.specs.Passages.{is_inside, let_go, passages_after, settled, settles, taken, taken_from, written_after};
 ghost use Rattle.tx_picture.specs.Transfers.{moved};
@@ -129,8 +129,8 @@ fn is_inside(written: &Written, starter: Option<Pid>) -> bool
     }
 }
 
-/// A write of a transaction after a step inside: a commit lets go of it, and after an abort it has put
-/// nothing.
+/// A write of a transaction after a step inside: a commit lets go of it, and after an abort it has
+/// put nothing.
 fn let_go(written: Written, reply: &Reply) -> Written
     ensures { result ≡ let_go reply.now written }
 {
@@ -191,8 +191,8 @@ fn take(
     Ok(())
 }
 
-/// Appends a passage from a write if a read takes bytes of it. So many of the bytes that the pipe held
-/// are not newer than this write; answers how many are older.
+/// Appends a passage from a write if a read takes bytes of it. So many of the bytes that the pipe
+/// held are not newer than this write; answers how many are older.
 fn take_from(
     passages: &mut Vec<Passage>,
     written: Written,

@@ -1,5 +1,5 @@
-//! Draws the steps of a schedule: a mark in the column of the process, what leads from it to another
-//! column, and the text beside it.
+//! Draws the steps of a schedule: a mark in the column of the process, what leads from it to
+//! another column, and the text beside it.
 ghost use Rattle.std.specs.Prelude.{◌≡◌, ◌≤◌, ◌+◌, ◌++◌, OnOk, length, string_bytes};
 ghost use Rattle.std.specs.Fmt.{decimal};
 ghost use Rattle.tx_picture.specs.Sheets.{page_as};
@@ -87,7 +87,8 @@ fn put_tie(text: &mut String, sheet: Sheet<'_>, number: u16, row: &Row) -> Resul
     }
 }
 
-/// Appends the name of the child to which a tie leads, where its number was that of another process.
+/// Appends the name of the child to which a tie leads, where its number was that of another
+/// process.
 fn put_anew(
     alloc: Global,
     text: &mut String,

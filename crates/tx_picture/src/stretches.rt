@@ -10,8 +10,8 @@ use crate::steps::put_numeral;
 use std::alloc::{AllocError, Global};
 use tx_base::Pid;
 
-/// Appends the stretches in which processes are members of transactions. The last row is that of the
-/// schedule's last step.
+/// Appends the stretches in which processes are members of transactions. The last row is that of
+/// the schedule's last step.
 pub(crate) fn put_strips(
     text: &mut String,
     columns: &[Pid],

@@ -2,8 +2,8 @@
 //! two hatchings, marks that are full, empty or half full, and dashes and heads of arrows, so that
 //! it reads in grey too.
 
-/// What every picture has before all else: the styles of the classes, the fills, the heads of arrows,
-/// and the white page.
+/// What every picture has before all else: the styles of the classes, the fills, the heads of
+/// arrows, and the white page.
 pub(crate) const STYLE: &str = "
 <style>
 text{font:13px monospace;fill:#000}

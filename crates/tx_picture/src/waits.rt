@@ -1,5 +1,5 @@
 //! Who could end the wait of a refused step.
-ghost use Rattle.std.specs.Prelude.{◌≡◌, ◌≤◌, ◌++◌, IfOk, OnOk, option_map, string_bytes};
+ghost use Rattle.std.specs.Prelude.{◌≡◌, ◌≤◌, ◌++◌, IfOk, OnOk, string_bytes};
 ghost use Rattle.std.specs.List.{flat_map};
 ghost use Rattle.tx_content.specs.Content.{view_of};
 ghost use Rattle.tx_picture.specs.Waits.{awaited, child_awaited, holding, listed, own_wait_text, wait_text, waits_of};
@@ -24,8 +24,8 @@ pub struct Wait {
     pub awaited: Pid,
 }
 
-/// The processes that could end the wait of a step that is answered so on that machine: those that have
-/// the other side of its pipe open, or its child. None where it does not wait.
+/// The processes that could end the wait of a step that is answered so on that machine: those that
+/// have the other side of its pipe open, or its child. None where it does not wait.
 pub(crate) fn awaited(
     alloc: Global,
     machine: &Machine,

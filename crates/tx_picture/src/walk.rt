@@ -1,12 +1,12 @@
 //! Makes the steps of a schedule, and notes what there is to draw of them.
-ghost use Rattle.std.specs.Prelude.{◌≡◌, ◌≤◌, ◌<◌, ◌^◌, [], List, IfErr, IfOk, OnOk, Some, None, length, map, option_map};
+ghost use Rattle.std.specs.Prelude.{◌≡◌, ◌≤◌, ◌<◌, List, IfErr, IfOk, OnOk, Some, None, length, map};
 ghost use Rattle.tx_base.specs.declared.steps.Accepted.{Accepted};
 ghost use Rattle.tx_core.specs.Runs.{IsAfter};
 ghost use Rattle.tx_lines.specs.Lines.{FitsHeader};
 ghost use Rattle.tx_lines.specs.declared.faults.Fault.TheVariants.{NoMemory};
 ghost use Rattle.tx_content.specs.Content.{view_of};
 ghost use Rattle.tx_model.specs.Answer.{answer};
-ghost use Rattle.tx_model.specs.Schedules.{history_of, history_with};
+ghost use Rattle.tx_model.specs.Schedules.{history_with};
 ghost use Rattle.tx_model.specs.State.{State};
 ghost use Rattle.tx_model.specs.View.{present, role_on};
 ghost use Rattle.tx_picture.specs.Drawings.{drawing_of, drawn_from, drawn_with, first_drawn, holder_of, holders, is_abort, runner};
@@ -147,8 +147,8 @@ fn is_abort(machine: &Machine, step: &Step) -> bool
     }
 }
 
-/// The starter whose transaction holds the signal that a step sends, if it sends one: its process is a
-/// member, and its target is none.
+/// The starter whose transaction holds the signal that a step sends, if it sends one: its process
+/// is a member, and its target is none.
 fn holder_of(machine: &Machine, step: &Step) -> Option<Pid>
     ensures { result ≡ holder_of (view_of machine.now) step.now }
 {
@@ -160,8 +160,8 @@ fn holder_of(machine: &Machine, step: &Step) -> Option<Pid>
     Some(starter)
 }
 
-/// Follows the processes over a step: the open stretch of one without a holder then ends, and one begins
-/// of each process that has a holder and no open stretch.
+/// Follows the processes over a step: the open stretch of one without a holder then ends, and one
+/// begins of each process that has a holder and no open stretch.
 fn follow(
     spans: &mut Vec<Span>,
     machine: &Machine,
@@ -202,8 +202,8 @@ fn ended_by(span: Span, machine: &Machine, stretch: Stretch, end: End) -> Span
     span
 }
 
-/// Whose a stretch of a process is: its own where it runs, or that of the starter of the transaction that
-/// it is a member of.
+/// Whose a stretch of a process is: its own where it runs, or that of the starter of the
+/// transaction that it is a member of.
 fn holder(machine: &Machine, stretch: Stretch, process: Pid) -> Option<Pid>
     ensures { result ≡ holders stretch (view_of machine.now) process.0 }
 {

@@ -24,8 +24,8 @@ use std::alloc::{AllocError, Global};
 use tx_base::Pid;
 use tx_lines::{put, put_count};
 
-/// The picture of what there is to draw of a schedule, with what is written beside it. The only error is
-/// that a growth of memory was refused.
+/// The picture of what there is to draw of a schedule, with what is written beside it. The only
+/// error is that a growth of memory was refused.
 pub(crate) fn picture_of(
     alloc: Global,
     captions: &Captions<'_>,
@@ -120,7 +120,8 @@ fn put_inner(
     put_legend(text, y_of(sheet.last) + 32)
 }
 
-/// Appends what there is to draw, and the numbers of the processes in front of it, moved to the right.
+/// Appends what there is to draw, and the numbers of the processes in front of it, moved to the
+/// right.
 #[tactic(auto, unfolding(crate::specs::Pictures::body_text))]
 fn put_body(
     alloc: Global,
@@ -141,8 +142,9 @@ fn put_body(
     put(text, "</g>\n")
 }
 
-/// Appends what there is to draw: the boxes of transactions behind all else, then the processes, what
-/// goes through pipes, who could end waits, and the steps, and in front of them the numbers of the boxes.
+/// Appends what there is to draw: the boxes of transactions behind all else, then the processes,
+/// what goes through pipes, who could end waits, and the steps, and in front of them the numbers of
+/// the boxes.
 #[tactic(auto, unfolding(crate::specs::Pictures::drawn_text))]
 fn put_drawn(
     alloc: Global,

@@ -1,5 +1,5 @@
 //! How often each process number was counted.
-ghost use Rattle.std.specs.Prelude.{◌≡◌, ℕ, ◌+◌, ◌-◌, ◌<◌, ◌^◌, List, [], ◌∷◌, ◌++◌, length, slice_index};
+ghost use Rattle.std.specs.Prelude.{ℕ, ◌+◌, ◌-◌, ◌<◌, ◌^◌, List, [], ◌∷◌, ◌++◌, slice_index};
 ghost use Rattle.tx_ready_queue.specs.Numbers.{IsNumber, HasCounted};
 
 use crate::MOST;

@@ -1,5 +1,4 @@
 //! Reads a schedule and commands, and writes what each command answers.
-ghost use Rattle.std.specs.Prelude.{◌≡◌};
 ghost use Rattle.tx_script.specs.Answered.{Answers};
 ghost use Rattle.tx_lines.specs.Ends.{IsFresh};
 ghost use Rattle.tx_script.specs.Grammars.{walks, AnswersText};

@@ -36,8 +36,8 @@ kernel 4
 3 deliver 10
 ";
 
-/// Two transactions that overlap: the first counts as one moment, the starter of the second looks at
-/// its signals; and an abort.
+/// Two transactions that overlap: the first counts as one moment, the starter of the second looks
+/// at its signals; and an abort.
 const OVERLAPPING: &str = "txos 2 schedule 3
 2 sys_xbegin
 3 map 0
@@ -79,8 +79,8 @@ fn says_after_a_walk(alloc: Global, session: &mut Session, wanted: &str) -> Resu
     Ok(says(alloc, session, wanted)?)
 }
 
-/// Whether a session says that, and again after a walk to the start and back: one that makes its steps
-/// anew, and one that exchanges what was taken back.
+/// Whether a session says that, and again after a walk to the start and back: one that makes its
+/// steps anew, and one that exchanges what was taken back.
 fn says_both_ways(alloc: Global, session: &mut Session, wanted: &str) -> Result<bool, Fail> {
     let anew = says_after_a_walk(alloc, session, wanted)?;
     session.reserve_forward(0)?;

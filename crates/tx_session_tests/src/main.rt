@@ -1,5 +1,5 @@
-//! The tests of sessions and of their workers: what no contract says and no text shows that the program
-//! answers.
+//! The tests of sessions and of their workers: what no contract says and no text shows that the
+//! program answers.
 //!
 //! The tests of `refused` pass whichever growth of memory is refused to them, and are run so, too.
 //!

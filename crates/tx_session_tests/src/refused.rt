@@ -1,7 +1,6 @@
-//! Growths that are refused. Each test passes also where one growth of memory is refused to it, whichever
-//! it is: it looks at what holds after the refusal, and goes on. Where the growth is one of its own texts,
-//! it ends.
-ghost use Rattle.std.specs.Prelude.{IfSome};
+//! Growths that are refused. Each test passes also where one growth of memory is refused to it,
+//! whichever it is: it looks at what holds after the refusal, and goes on. Where the growth is one
+//! of its own texts, it ends.
 ghost use Rattle.tx_journal.specs.Sessions.{IsAtEnd};
 
 use crate::runs::{go, kept, ran};
@@ -132,8 +131,8 @@ fn says_steps(alloc: Global, session: &Session, steps: &[Step]) -> bool {
     }
 }
 
-/// Whether a session says all the steps but that of a place, if there is one. It does where memory is
-/// refused.
+/// Whether a session says all the steps but that of a place, if there is one. It does where memory
+/// is refused.
 fn says_all_but(alloc: Global, session: &Session, steps: &[Step], refused: Option<usize>) -> bool {
     match without(alloc, steps, refused) {
         Some(others) => says_steps(alloc, session, others.as_slice()),
@@ -222,7 +221,8 @@ fn bytes_of(space: &Space) -> [u8; 128] {
     bytes
 }
 
-/// Whether the first store into a page that was copied is made, or wants memory and changes nothing.
+/// Whether the first store into a page that was copied is made, or wants memory and changes
+/// nothing.
 fn is_stored_or_not(alloc: Global, copy: &mut Space) -> bool {
     let before = bytes_of(copy);
     match copy.store(alloc, 63, &[9]) {

@@ -52,8 +52,8 @@ page 0 rw 1=ff
 proc 3 parent 1 run point 2 ret -22
 ";
 
-/// Process 2 lets a tree of processes grow in a transaction, in which number 4 is used twice, and takes
-/// it back; then number 3 is used again.
+/// Process 2 lets a tree of processes grow in a transaction, in which number 4 is used twice, and
+/// takes it back; then number 3 is used again.
 pub(crate) fn numbers_again() -> [Step; 12] {
     [
         call(2, Call::SysXbegin),

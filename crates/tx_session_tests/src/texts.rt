@@ -1,4 +1,5 @@
-//! What tests read, and what runs and sessions say: their accepted steps with replies, and the state.
+//! What tests read, and what runs and sessions say: their accepted steps with replies, and the
+//! state.
 use std::alloc::{AllocError, Global};
 use tx_base::{NoMemory, Reply, Step};
 use tx_core::Ran;

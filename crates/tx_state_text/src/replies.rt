@@ -1,5 +1,5 @@
 //! Prints replies.
-ghost use Rattle.std.specs.Prelude.{◌≡◌, ◌++◌, ◌∷◌, ◌<◌, ◌^◌, [], OnOk, option_map, string_bytes};
+ghost use Rattle.std.specs.Prelude.{◌≡◌, ◌++◌, ◌<◌, OnOk, option_map, string_bytes};
 ghost use Rattle.tx_state_text.specs.Replies.{error_name, missed_text, name_beside, named_reply_text, refusal_text, reply_text, undelivered_text};
 
 use std::alloc::AllocError;

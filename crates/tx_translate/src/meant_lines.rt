@@ -1,5 +1,5 @@
 //! The lines that a text of any version means, one after another.
-ghost use Rattle.std.specs.Prelude.{◌≡◌, ◌≢◌, ◌+◌, ◌<◌, ◌≤◌, ◌++◌, ◌⊎◌, ◌↔◌, [], ℕ, List, codes, IfNone, IfSome, IsFalse, IsTrue, MatchOption, None, Some, is_some, length, true};
+ghost use Rattle.std.specs.Prelude.{◌≡◌, ◌≢◌, ◌+◌, ◌<◌, ◌++◌, ◌⊎◌, ◌↔◌, [], ℕ, List, codes, IfNone, IfSome, IsFalse, IsTrue, MatchOption, None, Some, is_some, length, true};
 ghost use Rattle.std.specs.Bool.{then_some};
 ghost use Rattle.tx_base.specs.declared.steps.Step.{Step as TheStep};
 ghost use Rattle.tx_lines.specs.Lines.{step_text, FitsStep};

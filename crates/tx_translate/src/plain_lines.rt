@@ -1,5 +1,5 @@
 //! Puts a line as version 2 spells it.
-ghost use Rattle.std.specs.Prelude.{◌≡◌, ◌∷◌, ◌++◌, [], OnErr, OnOk, option_map};
+ghost use Rattle.std.specs.Prelude.{◌≡◌, ◌∷◌, ◌++◌, OnErr, OnOk, option_map};
 ghost use Rattle.tx_translate.specs.Lines.{kind_of, line_of_words, plain_arguments, plain_call, plain_line, plain_others, plain_version, spaced, stage_after};
 ghost use Rattle.tx_translate.specs.Roles.{plain_word};
 ghost use Rattle.tx_translate.specs.Rooms.{IsOver};

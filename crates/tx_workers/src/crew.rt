@@ -1,8 +1,8 @@
 //! Workers in threads of their own, who take processes from the ready queue.
-ghost use Rattle.std.specs.Prelude.{◌≡◌, ◌+◌, ◌-◌, ◌*◌, ◌<◌, ◌≤◌, ◌^◌, [], IfOk, Some, length};
+ghost use Rattle.std.specs.Prelude.{◌≡◌, ◌+◌, ◌-◌, ◌<◌, ◌≤◌, [], IfOk, Some, length};
 ghost use Rattle.tx_ready_queue.specs.Hands.{begins, HoldsEach};
 ghost use Rattle.tx_ready_queue.specs.Stations.{IsStationOf};
-ghost use Rattle.tx_workers.specs.Services.{most_taken, IsCrewOf, IsService};
+ghost use Rattle.tx_workers.specs.Services.{IsCrewOf, IsService};
 
 use crate::desk::Work;
 use crate::faults::WorkFault;
@@ -23,8 +23,8 @@ pub struct Crew<J: Work> {
     pub station: Station,
 }
 
-/// Starts the workers from a number down to 1, each in a thread of its own and with a station of its
-/// own, and joins all that were started. The faults are those of a team without a queue.
+/// Starts the workers from a number down to 1, each in a thread of its own and with a station of
+/// its own, and joins all that were started. The faults are those of a team without a queue.
 pub fn serve_down<'s, E, J, R, G>(
     scope: &Scope<'s, E>,
     floor: &'s Floor<'s, J, R, G>,

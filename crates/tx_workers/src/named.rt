@@ -27,8 +27,8 @@ pub(crate) fn running(machine: &Machine, pid: Pid) -> Option<&Proc>
 }
 
 /// The step that the program names for a process that runs: the delivery of a signal that may be
-/// delivered now, or else its next call. Nothing where that call chooses a number and none is free, and
-/// for process 1 past the last instruction; another process exits there.
+/// delivered now, or else its next call. Nothing where that call chooses a number and none is free,
+/// and for process 1 past the last instruction; another process exits there.
 pub(crate) fn named(program: &Program, machine: &Machine, pid: Pid, proc: &Proc) -> Option<Step>
     ensures { result ≡ named_for program.now.instructions.items (view_of machine.now) pid.0
         (Some (process_of proc.now)) }

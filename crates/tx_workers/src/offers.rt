@@ -16,8 +16,8 @@ const IN_ORDER: [u8; 20] = [
 ];
 
 /// The signal that a turn delivers to a process with that mark: the first one that may be delivered
-/// now. One that is caught is passed over where there is no room for what is saved then, and one that
-/// the transaction defers.
+/// now. One that is caught is passed over where there is no room for what is saved then, and one
+/// that the transaction defers.
 pub(crate) fn offered(proc: &Proc, mark: Option<&Mark>) -> Option<Signo>
     ensures { (t : Table) →
         option_map signal_number result

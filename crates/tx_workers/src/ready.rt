@@ -41,7 +41,8 @@ pub fn run_queue<R: Threads + Wait + Sync, G: Gate + Sync>(
     requires { IsAtEnd session }
     ensures worked { IfOk result (λ both.
         IsWorked program.now session workers turns both.0.session both.0.workers.items) }
-    ensures tallied { IfOk result (λ both. IsTallied session.width (noted both.0.workers.items) both.1) }
+    ensures tallied { IfOk result (λ both.
+        IsTallied session.width (noted both.0.workers.items) both.1) }
 {
     let post = Post {
         number: workers,

@@ -86,7 +86,8 @@ fn run_named<J: Work + Send + Sync, R: Threads + Wait + Sync, G: Gate + Sync>(
     requires given { J.given ≡ Some session }
     requires at_end { IsAtEnd session }
     ensures outcome { IfOk result (λ outcome.
-        IsOutcome program.now session post.number post.turns outcome.session outcome.runners.items) }
+        IsOutcome program.now session post.number post.turns outcome.session
+        outcome.runners.items) }
     ensures thread { result ≡ Err Spawn → 0 < post.number }
 {
     let start = session.len();

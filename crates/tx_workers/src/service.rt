@@ -79,8 +79,8 @@ impl<'s, J: Work, R: Wait, G: Gate> Floor<'s, J, R, G> {
         Served { done, station }
     }
 
-    /// A turn: takes process numbers, gives each process a turn and puts its number back, until one ran,
-    /// or there are no more processes, or the queue is empty.
+    /// A turn: takes process numbers, gives each process a turn and puts its number back, until one
+    /// ran, or there are no more processes, or the queue is empty.
     fn serve_turn(
         &self,
         queue: &ReadyQueue,

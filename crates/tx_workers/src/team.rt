@@ -22,8 +22,8 @@ pub struct Team<J: Work> {
 /// Starts the workers from a number down to 1, each in a thread of its own, and joins all that were
 /// started.
 ///
-/// `Spawn` where a thread could not be started; else `NoMemory` where a worker wanted memory, or the
-/// list of them does.
+/// `Spawn` where a thread could not be started; else `NoMemory` where a worker wanted memory, or
+/// the list of them does.
 pub fn run_down<'s, E, J, R, G>(
     scope: &Scope<'s, E>,
     floor: &'s Floor<'s, J, R, G>,

@@ -12,8 +12,9 @@ use tx_journal::{Session, put_state};
 use tx_lines::{Fault, Sink, put, put_count, put_count_first, put_step, write_whole};
 use tx_state_text::put_reply;
 
-/// Writes the entries of a session, a line each with its worker, its step and its reply, and the state at
-/// the position. Nothing is written where the fault is `NoMemory`; the only other one is `Writer`.
+/// Writes the entries of a session, a line each with its worker, its step and its reply, and the
+/// state at the position. Nothing is written where the fault is `NoMemory`; the only other one is
+/// `Writer`.
 pub fn write_run<W: Sink>(alloc: Global, session: &Session, sink: &mut W) -> Result<(), Fault>
     requires { IsFresh (W.counts sink.old) }
     ensures { WritesText (W.written sink.old) (W.counts sink.old) (run_text session.now) result

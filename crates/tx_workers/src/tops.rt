@@ -1,5 +1,5 @@
 //! The number above which there is no process.
-ghost use Rattle.std.specs.Prelude.{◌≡◌, ◌+◌, ◌≤◌, All, length, take};
+ghost use Rattle.std.specs.Prelude.{◌+◌, ◌≤◌, All, length, take};
 ghost use Rattle.tx_workers.specs.Tops.{HasTop, IsWithin};
 
 use tx_base::{Call, Step};

@@ -27,8 +27,8 @@ pub enum Took {
     Ran,
 }
 
-/// Takes the turn of the worker's next running process after its last one: as `turn_of`. Where none of
-/// its processes runs, nothing is done.
+/// Takes the turn of the worker's next running process after its last one: as `turn_of`. Where none
+/// of its processes runs, nothing is done.
 ///
 /// `NoMemory` where a growth is refused: session and worker are then as they were.
 pub fn turn(

@@ -4,8 +4,8 @@ ghost use Rattle.std.specs.Prelude.{◌≡◌, []};
 use std::alloc::Global;
 use tx_base::Accepted;
 
-/// Takes turns for the processes that are its own: of the workers of a total number, numbered from 1,
-/// each has the processes whose numbers, counted round, fall to it.
+/// Takes turns for the processes that are its own: of the workers of a total number, numbered from
+/// 1, each has the processes whose numbers, counted round, fall to it.
 #[derive(Drop)]
 pub struct Worker {
     /// From 1 to the total.

@@ -1,8 +1,8 @@
 //! The program: reads its words, and then a text.
 //!
 //! `main` is thin: it reads the words with `clap`, calls `replay`, `debug`, `write_json`,
-//! `picture`, `serve`, `check_for` or `write_plain` over the standard streams, or writes what a word
-//! means or what a run did (`runs.rt`), and answers a status.
+//! `picture`, `serve`, `check_for` or `write_plain` over the standard streams, or writes what a
+//! word means or what a run did (`runs.rt`), and answers a status.
 #![tactic(auto)]
 
 ghost use Rattle.std.specs.Prelude.{◌≡◌, IfOk, OnErr, OnOk, false, true};
@@ -220,8 +220,8 @@ fn status_of<E: Display + Drop>(rt: &impl Eprint, answer: Result<(), E>) -> Exit
     }
 }
 
-/// The status of a check, and of expectations: that of a fault too where all is not well. A fault is
-/// printed.
+/// The status of a check, and of expectations: that of a fault too where all is not well. A fault
+/// is printed.
 fn status_of_check(rt: &impl Eprint, answer: Result<bool, Fault>) -> ExitCode
     ensures well { IfOk answer (λ is_well. is_well ≡ true → exit_status result ≡ 0) }
     ensures ill { IfOk answer (λ is_well. is_well ≡ false → exit_status result ≡ FAULTY) }

@@ -55,7 +55,8 @@ fn write_in<W: Sink>(
     sink: &mut W,
 ) -> Result<(), Fault>
     requires { IsFresh (W.counts sink.old) }
-    ensures { WritesText (W.written sink.old) (W.counts sink.old) (report_in form session.now) result
+    ensures { WritesText (W.written sink.old) (W.counts sink.old) (report_in form session.now)
+        result
         (W.written sink.new) (W.counts sink.new) }
 {
     match form {

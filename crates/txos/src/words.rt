@@ -54,8 +54,8 @@ pub enum Asked<'a> {
     Shell(Form),
     /// To read a program, run it by workers, and write what they did.
     Run(Crew),
-    /// To read a text, and write what is wrong with each of its lines that is at fault, as a command reads
-    /// it.
+    /// To read a text, and write what is wrong with each of its lines that is at fault, as a
+    /// command reads it.
     Check(Reader),
     /// To report that a word names no command by which a text can be checked.
     NoReader(&'a str),
@@ -88,7 +88,8 @@ pub fn read_words<'a>(alloc: Global, words: &'a [String]) -> Result<Asked<'a>, E
     Ok(asked_of(&matches)?)
 }
 
-/// What clap finds in the words. Words that name no command, or ask for help, are an `Err` of clap's.
+/// What clap finds in the words. Words that name no command, or ask for help, are an `Err` of
+/// clap's.
 fn matches_of<'a>(alloc: Global, words: &'a [String]) -> Result<ArgMatches<'a>, Error>
     ensures reads { FailsBy (fault_of command_line (map string_bytes words.now)) result }
     ensures name { IfOk result (λ matches.
@@ -217,7 +218,8 @@ fn excerpt_of<'a>(matches: &ArgMatches<'_>) -> Asked<'a>
 /// The step that an option of `picture` says, or that other one.
 fn step_of(matches: &ArgMatches<'_>, option: &str, other: u16) -> u16
     requires { subcommand_name_of matches.now ≡ Some (codes "picture") }
-    ensures { is_some (text_in option.now (subcommand_rows_of matches.now)) ≡ false → result ≡ other }
+    ensures { is_some (text_in option.now (subcommand_rows_of matches.now)) ≡ false →
+        result ≡ other }
 {
     if !is_given(matches, "picture", option) {
         return other;
@@ -261,7 +263,8 @@ fn reader_named(word: &str) -> Option<Reader>
     }
 }
 
-/// The two numbers that the words of a command give. Clap gives no matches of it whose numbers are none.
+/// The two numbers that the words of a command give. Clap gives no matches of it whose numbers are
+/// none.
 fn crew_of(matches: &ArgMatches<'_>, command: &str) -> Result<Crew, AllocError> {
     let given = matches.subcommand_matches(command).ok_or(AllocError)?;
     Ok(Crew {
@@ -333,8 +336,8 @@ fn top_command<'a>(alloc: Global) -> Command<'a>
         .version(VERSION)
 }
 
-/// What help says of a command: a line of what it does, how it is called, with a text as a file where it
-/// reads one, and an example.
+/// What help says of a command: a line of what it does, how it is called, with a text as a file
+/// where it reads one, and an example.
 #[derive(Clone, Copy)]
 struct Help {
     about: &'static str,

@@ -6,7 +6,6 @@
 //! calls, so calls on several threads don't meet.
 #![tactic(auto)]
 
-ghost use Rattle.std.specs.Prelude.{◌≡◌};
 ghost use Rattle.tx_answers.specs.Handed.{Gives};
 ghost use Rattle.tx_answers.specs.Sessions.{form_of, AnswersLines};
 ghost use Rattle.tx_answers.specs.Texts.{IsAnswered, IsChecked};

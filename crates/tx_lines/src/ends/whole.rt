@@ -1,5 +1,4 @@
 //! Reads and writes whole texts.
-ghost use Rattle.std.specs.Prelude.{◌≡◌};
 ghost use Rattle.tx_lines.specs.Ends.{IsFresh};
 ghost use Rattle.tx_lines.specs.Whole.{ReadsWhole, WritesWhole};
 

@@ -1,7 +1,7 @@
 //! The words of a line, separated by spaces, and the numbers among them.
-ghost use Rattle.std.specs.Prelude.{◌≡◌, ◌≢◌, ◌<◌, ◌^◌, ◌++◌, ◌∷◌, ℤ, ℕ, List, FitsSigned, IfSome, IsSomeAnd, MatchOption, Some, option_map};
+ghost use Rattle.std.specs.Prelude.{◌≡◌, ◌≢◌, ◌<◌, ◌++◌, ◌∷◌, ℤ, ℕ, List, FitsSigned, IfSome, IsSomeAnd, MatchOption, Some, option_map};
 ghost use Rattle.std.specs.Int.{w64};
-ghost use Rattle.std.specs.Fmt.{decimal, signed_decimal};
+ghost use Rattle.std.specs.Fmt.{signed_decimal};
 ghost use Rattle.tx_lines.specs.Calls.{pair_text, triple_text};
 ghost use Rattle.tx_lines.specs.Words.{first_word, parts_at};
 

@@ -1,6 +1,6 @@
 //! Reads the text of a debugger: the lines of a schedule, the line `debug`, and the lines of
 //! commands.
-ghost use Rattle.std.specs.Prelude.{◌≡◌, ◌≢◌, ◌+◌, ◌<◌, ◌≤◌, ◌∷◌, ◌↔◌, codes, IfErr, IfOk, IsTrue, MatchResult, length};
+ghost use Rattle.std.specs.Prelude.{◌≡◌, ◌≢◌, ◌+◌, ◌<◌, ◌≤◌, ◌↔◌, IfErr, IfOk, IsTrue, MatchResult};
 ghost use Rattle.tx_lines.specs.Lines.{step_text};
 ghost use Rattle.tx_lines.specs.Schedule.{lines_of, AreSteps, FaultsAmong, FaultsBy, IsLine};
 ghost use Rattle.tx_lines.specs.Walks.{before_commands, command_text, debug_line, AreCommands, FaultsAtCommand, FaultsBeforeCommands, IsPastSteps, FaultsUnreadBefore, ReadsWalk};

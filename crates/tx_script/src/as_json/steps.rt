@@ -1,13 +1,11 @@
 //! Makes the steps of a schedule, and answers a line of JSON for each.
-ghost use Rattle.std.specs.Prelude.{◌≡◌, ◌++◌, IfErr, IfOk, OnOk, length, string_bytes};
+ghost use Rattle.std.specs.Prelude.{◌≡◌, ◌++◌, IfErr, IfOk, OnOk, string_bytes};
 ghost use Rattle.tx_journal.specs.Entries.{history_of};
 ghost use Rattle.tx_journal.specs.Sessions.{start_of, IsAtEnd, SameBoot};
 ghost use Rattle.tx_json.specs.Answers.{step_answer};
 ghost use Rattle.tx_lines.specs.Lines.{FitsHeader};
 ghost use Rattle.tx_lines.specs.declared.faults.Fault.TheVariants.{NoMemory};
-ghost use Rattle.tx_model.specs.Answer.{answer};
-ghost use Rattle.tx_model.specs.Schedules.{history_with, history_of as history_after};
-ghost use Rattle.tx_model.specs.View.{view};
+ghost use Rattle.tx_model.specs.Schedules.{history_of as history_after};
 ghost use Rattle.tx_script.specs.JsonLines.{line_of, schedule_lines, step_lines, text_of};
 
 use crate::as_json::responses::put_line;

@@ -2,7 +2,7 @@
 ghost use Rattle.std.specs.Prelude.{◌≡◌, ◌++◌, codes, IfSome, Some};
 ghost use Rattle.std.specs.Bool.{then_some};
 ghost use Rattle.tx_base.specs.declared.steps.Call.{Call};
-ghost use Rattle.tx_lines.specs.Calls.{call_text, FitsCall};
+ghost use Rattle.tx_lines.specs.Calls.{call_text};
 ghost use Rattle.tx_lines.specs.Lines.{IsCallOf, SpellsCall};
 ghost use Rattle.tx_lines.specs.declared.read.header.Version.{Version};
 
