@@ -2,7 +2,7 @@ use Rattle.std.proofs.Common.{[], ◌∷◌, List, Option, None, replicate, subs
 use Rattle.tx_desc.specs.Counts.{Agrees}
 use Rattle.tx_desc.specs.Places.{Descriptors}
 use Rattle.tx_desc.specs.declared.opened.Opened.{Opened}
-use Rattle.tx_kernel_tests.proofs.descriptors.opened.Goals as goal
+use Rattle.tx_tests.proofs.descriptors.opened.Goals as goal
 
 pub returns-in-Ok-eq0-eq1 : goal.returns-in-Ok-eq0-eq1
 returns-in-Ok-eq0-eq1 c =

@@ -16,6 +16,12 @@ fn begins(alloc: Global, machine: &mut Machine) -> bool {
     matches!(reply, Reply::Done(0))
 }
 
+/// Whether the kernel may abort the transaction of process 2, and process 3 has none to abort.
+fn has_one_to_abort(machine: &mut Machine) -> bool {
+    machine.kernel_status(Pid(2)) == Some(202)
+        && matches!(machine.kernel_abort(Pid(3)), Err(NoTransaction))
+}
+
 /// Aborts the transaction of process 2 as the kernel does, and takes that back. Whether process 2
 /// is a member of none, and then of its own.
 fn is_aborted_and_back(machine: &mut Machine) -> bool {
@@ -32,12 +38,7 @@ fn is_aborted_and_back(machine: &mut Machine) -> bool {
 #[test]
 fn aborts_by_the_kernel_and_back(rt: HostRuntime) -> Result<(), Fail> {
     let mut machine = Machine::boot_wide(rt.alloc(), 3)?;
-    assert!(rt; begins(rt.alloc(), &mut machine));
-    assert!(rt; machine.kernel_status(Pid(2)) == Some(202));
-    assert!(rt;
-        matches!(machine.kernel_abort(Pid(3)), Err(NoTransaction)),
-        "3 has none"
-    );
+    assert!(rt; begins(rt.alloc(), &mut machine) && has_one_to_abort(&mut machine));
     assert!(rt; is_aborted_and_back(&mut machine));
     Ok(())
 }
@@ -82,20 +83,31 @@ fn named_by(machine: &Machine, step: &Step) -> Objects {
     footprint(machine.parts(), machine.marks(), &[], step)
 }
 
+/// Whether a kill names its sender and its target alone.
+fn kill_names_both(machine: &Machine) -> bool {
+    let named = named_by(machine, &of_second(Call::Kill(3, 10)));
+    named.has(Object::Proc(Pid(2)))
+        && named.has(Object::Proc(Pid(3)))
+        && !named.has(Object::Proc(Pid(1)))
+}
+
 #[test]
 fn a_kill_names_its_target(rt: HostRuntime) -> Result<(), Fail> {
     let machine = Machine::boot(rt.alloc(), 3)?;
-    let named = named_by(&machine, &of_second(Call::Kill(3, 10)));
-    assert!(rt; named.has(Object::Proc(Pid(2))) && named.has(Object::Proc(Pid(3))));
-    assert!(rt; !named.has(Object::Proc(Pid(1))));
+    assert!(rt; kill_names_both(&machine));
     Ok(())
+}
+
+/// Whether the kill of a process that is not there names that process alone.
+fn missing_names_itself(machine: &Machine) -> bool {
+    let named = named_by(machine, &Step::Call(Pid(9), Call::Kill(3, 10)));
+    named.has(Object::Proc(Pid(9))) && !named.has(Object::Proc(Pid(3)))
 }
 
 #[test]
 fn a_missing_process_names_itself_and_the_kernel_nothing(rt: HostRuntime) -> Result<(), Fail> {
     let machine = Machine::boot(rt.alloc(), 3)?;
-    let named = named_by(&machine, &Step::Call(Pid(9), Call::Kill(3, 10)));
-    assert!(rt; named.has(Object::Proc(Pid(9))) && !named.has(Object::Proc(Pid(3))));
+    assert!(rt; missing_names_itself(&machine));
     assert!(rt; named_by(&machine, &Step::KernelAbort(Pid(2))).is_empty());
     Ok(())
 }

@@ -75,16 +75,28 @@ fn a_call_follows_another(rt: HostRuntime) -> Result<(), Fail> {
     Ok(())
 }
 
+/// Posts signal 10 to process 2. Whether that changed what is pending.
+fn is_posted(parts: &mut Parts) -> bool
+    requires { IsWhole parts.old }
+    ensures { IsWhole parts.new }
+{
+    let posted = post(parts, &sent(10));
+    posted.answer == Ok(()) && posted.change.is_some()
+}
+
+/// Delivers signal 10 to process 2. Whether it ends by that.
+fn is_ended(alloc: Global, parts: &mut Parts) -> bool
+    requires { IsWhole parts.old }
+{
+    let mut log = Log::new(alloc);
+    let delivered = deliver(alloc, parts, Pid(2), Signo(10), None, &mut log);
+    delivered.is_ok_and(|planned| matches!(planned.outcome, Outcome::Ended))
+}
+
 #[test]
 fn a_signal_is_posted_and_delivered(rt: HostRuntime) -> Result<(), Fail> {
     let mut parts = booted(rt.alloc())?;
-    let posted = post(&mut parts, &sent(10));
-    assert!(rt; posted.answer == Ok(()) && posted.change.is_some());
-    let mut log = Log::new(rt.alloc());
-    let Ok(planned) = deliver(rt.alloc(), &mut parts, Pid(2), Signo(10), None, &mut log) else {
-        panic!(rt; "a pending signal is delivered");
-    };
-    assert!(rt; matches!(planned.outcome, Outcome::Ended));
+    assert!(rt; is_posted(&mut parts) && is_ended(rt.alloc(), &mut parts));
     assert!(rt; shown(&parts, 2) == Some((0, 0, Some(266))));
     Ok(())
 }

@@ -8,16 +8,26 @@ fn byte(space: &Space, address: i64) -> Option<u8> {
     space.load(address).ok()
 }
 
+/// A space of pages 0 and 1, with bytes written across their border.
+fn written(alloc: Global) -> Result<Space, PageError> {
+    let mut space = Space::new();
+    space.map(alloc, 0)?;
+    space.map(alloc, 1)?;
+    space.store(alloc, 62, &[1, 2, 3])?;
+    Ok(space)
+}
+
+/// Whether the bytes before the border, and across it, are those that were written.
+fn has_bytes(space: &Space) -> bool {
+    let mut bytes = [9; 4];
+    let taken = space.take(61, &mut bytes);
+    taken.is_ok() && bytes == [0, 1, 2, 3] && space.part(61, 9) == [0, 1, 2].as_slice()
+}
+
 #[test]
 fn pages_are_mapped_and_written(rt: HostRuntime) -> Result<(), Fail> {
-    let mut space = Space::new();
-    space.map(rt.alloc(), 0)?;
-    space.map(rt.alloc(), 1)?;
-    space.store(rt.alloc(), 62, &[1, 2, 3])?;
-    let mut bytes = [9; 4];
-    space.take(61, &mut bytes)?;
-    assert!(rt; bytes == [0, 1, 2, 3]);
-    assert!(rt; space.part(61, 9) == [0, 1, 2].as_slice());
+    let mut space = written(rt.alloc())?;
+    assert!(rt; has_bytes(&space));
     space.protect(0, false)?;
     assert!(rt; space.is_good(Access::Read, 0, 128) && !space.is_good(Access::Write, 63, 2));
     space.unmap(1)?;

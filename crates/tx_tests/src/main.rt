@@ -1,5 +1,6 @@
-//! The tests of sessions and of their workers: what no contract says and no text shows that the
-//! program answers.
+//! The tests of all libraries: what no contract says and no text shows that the program answers.
+//! They are in no library's own crate, since a crate with tests is proved once more for them, and
+//! all in one, since a program of tests is proved as a whole.
 //!
 //! The tests of `refused` pass whichever growth of memory is refused to them, and are run so, too.
 //!
@@ -8,9 +9,21 @@
 #![tactic(auto)]
 
 #[cfg(test)]
+mod descriptors;
+#[cfg(test)]
+mod ids;
+#[cfg(test)]
 mod journals;
 #[cfg(test)]
+mod kernel;
+#[cfg(test)]
 mod machine;
+#[cfg(test)]
+mod memory;
+#[cfg(test)]
+mod numbers;
+#[cfg(test)]
+mod pipes;
 #[cfg(test)]
 mod programs;
 #[cfg(test)]
@@ -24,9 +37,13 @@ mod schedules;
 #[cfg(test)]
 mod sessions;
 #[cfg(test)]
+mod signals;
+#[cfg(test)]
 mod texts;
 #[cfg(test)]
 mod turns;
+#[cfg(test)]
+mod undone;
 #[cfg(test)]
 mod workers;
 
