@@ -1,5 +1,5 @@
 -- What the words of a command line with no fault name.
-use Rattle.std.proofs.Common.{◌≡◌, ◌∙◌, ◌⊎◌, ◌++◌, ◌||◌, Bool, true, false, cond, List, [], ◌∷◌, Option, Some, None, ap, ap₂, arith, codes, inl, inr, map, refl, rules, subst, sym, is_some, option_map}
+use Rattle.std.proofs.Common.{◌≡◌, ◌∙◌, ◌⊎◌, ◌++◌, ◌||◌, Bool, true, false, cond, List, [], ◌∷◌, Option, Some, None, ap, arith, codes, inl, inr, map, refl, rules, subst, sym, is_some, option_map}
 use Rattle.std.specs.Prelude.{Box, IfSome, find}
 use Rattle.std.specs.Box.{box_value}
 use Rattle.std.specs.List.{fold, list_all}
@@ -10,7 +10,7 @@ use Rattle.clap.specs.Kinds.{HasKind, Kinds, or_else}
 use Rattle.clap.specs.declared.error.Error.{Error}
 use Rattle.clap.specs.Lexer.{long_of, short_of}
 use Rattle.clap.specs.Matches.{subcommand_name_of}
-use Rattle.clap.specs.Simple.{App, HasMatchesOf, Shape, app_of, app_of_fields, argument_words, built, entered, is_simple, label_of, names_of, on_top, rows_at, subcommand_of, subcommand_rows, with_subcommand}
+use Rattle.clap.specs.Simple.{App, HasMatchesOf, Shape, app_of, argument_words, built, entered, is_simple, label_of, names_of, rows_at, subcommand_of, subcommand_rows, with_subcommand}
 use Rattle.clap.specs.Walk as walks
 use Rattle.clap.specs.Walk.{Held, Names, Outcome, Row, Rule, Step, Text, Waiting, Walk, after_flag, after_step, answers_to, arg_by_index, finished, is_empty, long_or_other, nothing_held, plain_word, settled, stop_after, subcommand_met, subcommand_or_other, to_positional, walk, walk_from, walked, word_met}
 use Rattle.clap.specs.Built.{AddsSubcommand}
@@ -19,7 +19,7 @@ use Rattle.clap.specs.declared.builder.command.Command.{Command}
 use Rattle.clap.specs.declared.parser.matches.ArgMatches.{ArgMatches}
 use Rattle.clap.specs.declared.parser.matches.ArgMatches.TheViews.{out-ArgMatches, out-SubCommand}
 use Rattle.clap.specs.declared.parser.matches.SubCommand.{SubCommand}
-use Rattle.txos.specs.CommandLine.{command_line, command_names, commands, named, IsOneOf, SomeOneOf}
+use Rattle.txos.specs.CommandLine.{command_line, command_names, named, IsOneOf, SomeOneOf}
 
 -- ---- names
 
@@ -233,15 +233,6 @@ fault_kind a words error is kind = subst (λ (x : App). HasKind (fault_of x word
 
 -- ---- the command that the program builds
 
-pub required : (start top : Command) (a : App) → app_of start ≡ a → out-Command top ≡ record (out-Command start) { subcommand_required = true }
-    → app_of top ≡ on_top (λ (s : Shape). record s { subcommand_required = true }) a
-required start top a is requires =
-    ap app_of_fields requires ∙ ap (on_top (λ (s : Shape). record s { subcommand_required = true })) is
-
-pub added : (old sub new : Command) (a s : App) → app_of old ≡ a → app_of sub ≡ s → (out-Command sub).has_globals ≡ false → AddsSubcommand old sub new
-    → app_of new ≡ with_subcommand a s.top
-added old sub new a s is_old is_sub local adds = adds.shape local ∙ ap₂ with_subcommand is_old (ap (λ (x : App). x.top) is_sub)
-
-pub added_as : (old sub new : Command) (a : App) (s : Shape) → app_of old ≡ a → (app_of sub).top ≡ s → (out-Command sub).has_globals ≡ false → AddsSubcommand old sub new
-    → app_of new ≡ with_subcommand a s
-added_as old sub new a s is_old is_sub local adds = adds.shape local ∙ ap₂ with_subcommand is_old is_sub
+pub added : (old sub new : Command) (s : Shape) → (app_of sub).top ≡ s → (out-Command sub).has_globals ≡ false → AddsSubcommand old sub new
+    → app_of new ≡ with_subcommand (app_of old) s
+added old sub new s is_sub local adds = adds.shape local ∙ ap (with_subcommand (app_of old)) is_sub

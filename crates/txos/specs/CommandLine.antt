@@ -1,7 +1,7 @@
 -- The words of the program's command line.
 use Rattle.std.specs.Char.{is_ascii_digit}
 use Rattle.std.specs.Str.{bytes_eq}
-use Rattle.std.specs.Prelude.{◌≡◌, ◌≢◌, ◌≤◌, ◌==◌, ◌&&◌, ◌++◌, ◌⊎◌, if◌then◌else◌, Bool, false, None, ℕ, List, [], ◌∷◌, Option, Some, codes, fold, is_some, map, not, option_and_then, option_map, pos, true}
+use Rattle.std.specs.Prelude.{◌≡◌, ◌≢◌, ◌≤◌, ◌==◌, ◌&&◌, ◌⊎◌, if◌then◌else◌, Bool, false, None, ℕ, List, [], ◌∷◌, Option, Some, codes, find, fold, is_some, map, not, option_and_then, option_map, pos, true}
 use Rattle.clap.specs.Simple.{Shape, new_rule, new_shape, on_top}
 use Rattle.clap.specs.Walk.{Rule}
 use Rattle.clap.specs.Words.{App, Row, Text, new_app, one_of, subcommand_of, with_subcommand}
@@ -11,6 +11,8 @@ use Rattle.tx_check.specs.declared.readers.Reader.{Reader}
 use Rattle.tx_check.specs.declared.readers.Reader.TheVariants as readers
 use Rattle.tx_script.specs.declared.forms.Form.{Form}
 use Rattle.tx_script.specs.declared.forms.Form.TheVariants as forms
+use Rattle.txos.specs.declared.words.CommandName.{CommandName}
+use Rattle.txos.specs.declared.words.CommandName.TheVariants as names
 use Rattle.txos.specs.declared.words.Asked.{Asked}
 use Rattle.txos.specs.declared.words.Asked.TheVariants.{Check, Debug, Expect, Explain, HalfRun, Json, JsonRun, NoExcerpt, NoReader, Picture, Plain, Replay, Run, Shell, Version}
 
@@ -70,23 +72,45 @@ check_line = record (new_shape (codes "check")) { rules = new_rule (codes "comma
 abbrev pub explain_line : Shape
 explain_line = record (new_shape (codes "explain")) { rules = new_rule (codes "word") ∷ [] }
 
--- the commands, in the order in which they are added: those that answer a schedule
-abbrev pub schedule_commands : List Shape
-schedule_commands =
-    text_line (codes "replay") ∷ text_line (codes "debug") ∷ json_line ∷ picture_line
-    ∷ text_line (codes "expect") ∷ []
+-- the word that names a command
+abbrev pub text_of : CommandName → Text
+text_of names.Replay = codes "replay"
+text_of names.Debug = codes "debug"
+text_of names.Json = codes "json"
+text_of names.Picture = codes "picture"
+text_of names.Expect = codes "expect"
+text_of names.Shell = codes "shell"
+text_of names.Run = codes "run"
+text_of names.Check = codes "check"
+text_of names.Plain = codes "plain"
+text_of names.Explain = codes "explain"
+text_of names.Version = codes "version"
 
--- those that make steps as they come
-abbrev pub run_commands : List Shape
-run_commands = shell_line ∷ run_line ∷ []
+-- and its own words
+abbrev pub line_of : CommandName → Shape
+line_of names.Json = json_line
+line_of names.Picture = picture_line
+line_of names.Shell = shell_line
+line_of names.Run = run_line
+line_of names.Check = check_line
+line_of names.Explain = explain_line
+line_of name = text_line (text_of name)
 
--- and those about texts and words
-abbrev pub text_commands : List Shape
-text_commands =
-    check_line ∷ text_line (codes "plain") ∷ explain_line ∷ text_line (codes "version") ∷ []
+-- all, in the order in which they are added
+abbrev pub all_commands : List CommandName
+all_commands =
+    names.Replay ∷ names.Debug ∷ names.Json ∷ names.Picture ∷ names.Expect ∷ names.Shell
+    ∷ names.Run ∷ names.Check ∷ names.Plain ∷ names.Explain ∷ names.Version ∷ []
+
+-- the first of some that a word names, and the one among all
+abbrev pub named_among : Text → List CommandName → Option CommandName
+named_among word = find (λ (name : CommandName). bytes_eq (text_of name) word)
+
+abbrev pub command_named : Text → Option CommandName
+command_named word = named_among word all_commands
 
 abbrev pub commands : List Shape
-commands = schedule_commands ++ run_commands ++ text_commands
+commands = map line_of all_commands
 
 -- the names of the program's commands
 abbrev pub command_names : List Text

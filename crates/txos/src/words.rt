@@ -1,12 +1,12 @@
 //! The words that the program is given.
-ghost use Rattle.std.specs.Prelude.{◌≡◌, IfOk, IfSome, Some, codes, false, fold, is_some, map, option_map, string_bytes};
+ghost use Rattle.std.specs.Prelude.{◌≡◌, IfOk, IfSome, Some, codes, false, is_some, map, option_map, string_bytes};
 ghost use Rattle.clap.specs.Words.{FailsBy, app_of, fault_of, subcommand_name_of, subcommand_of, with_subcommand};
 ghost use Rattle.clap.specs.Simple.{subcommand_rows_of};
 ghost use Rattle.clap.specs.Walk.{rule_of};
 ghost use Rattle.clap.specs.declared.builder.command.Command.TheViews.{out-Command};
 ghost use Rattle.txos.specs.CommandLine.{asked_number, begins_negative, check_line, command_line, explain_line, is_any, json_line};
 ghost use Rattle.txos.specs.CommandLine.{IsAskedIn, IsFormOf, name_of, named, number_after, number_option, reader_named, run_line};
-ghost use Rattle.txos.specs.CommandLine.{command_names, picture_line, run_commands, schedule_commands, shell_line, text_commands, text_in, text_line, top_line, SomeOneOf};
+ghost use Rattle.txos.specs.CommandLine.{command_named, command_names, line_of, picture_line, shell_line, text_in, text_line, text_of, top_line, SomeOneOf};
 
 use clap::error::Error;
 use clap::{Arg, ArgAction, ArgMatches, Command, value_parser};
@@ -110,19 +110,33 @@ fn asked_of<'a>(matches: &ArgMatches<'a>) -> Result<Asked<'a>, AllocError>
     ensures asked { IfOk result (λ asked. subcommand_name_of matches.now ≡ Some (name_of asked)) }
     ensures form { IfOk result (IsAskedIn (subcommand_rows_of matches.now)) }
 {
-    match matches.subcommand_name() {
-        Some("replay") => Ok(Asked::Replay),
-        Some("debug") => Ok(Asked::Debug),
-        Some("json") => json_of(matches),
-        Some("picture") => Ok(excerpt_of(matches)),
-        Some("expect") => Ok(Asked::Expect),
-        Some("shell") => Ok(Asked::Shell(form_of(matches))),
-        Some("run") => Ok(Asked::Run(crew_of(matches, "run")?)),
-        Some("check") => Ok(check_of(matches)),
-        Some("plain") => Ok(Asked::Plain),
-        Some("explain") => Ok(Asked::Explain(word_of(matches))),
-        Some("version") => Ok(Asked::Version),
-        _ => unreachable!(),
+    let Some(word) = matches.subcommand_name() else {
+        unreachable!()
+    };
+    let Some(name) = CommandName::of(word) else {
+        unreachable!()
+    };
+    asked_for(matches, name)
+}
+
+/// What matches with a command of that name ask for.
+fn asked_for<'a>(matches: &ArgMatches<'a>, name: CommandName) -> Result<Asked<'a>, AllocError>
+    requires { subcommand_name_of matches.now ≡ Some (text_of name) }
+    ensures asked { IfOk result (λ asked. name_of asked ≡ text_of name) }
+    ensures form { IfOk result (IsAskedIn (subcommand_rows_of matches.now)) }
+{
+    match name {
+        CommandName::Replay => Ok(Asked::Replay),
+        CommandName::Debug => Ok(Asked::Debug),
+        CommandName::Json => json_of(matches),
+        CommandName::Picture => Ok(excerpt_of(matches)),
+        CommandName::Expect => Ok(Asked::Expect),
+        CommandName::Shell => Ok(Asked::Shell(form_of(matches))),
+        CommandName::Run => Ok(Asked::Run(crew_of(matches, "run")?)),
+        CommandName::Check => Ok(check_of(matches)),
+        CommandName::Plain => Ok(Asked::Plain),
+        CommandName::Explain => Ok(Asked::Explain(word_of(matches))),
+        CommandName::Version => Ok(Asked::Version),
     }
 }
 
@@ -282,48 +296,27 @@ fn word_of<'a>(matches: &ArgMatches<'a>) -> Option<&'a str> {
 fn new_command<'a>(alloc: Global) -> Result<Command<'a>, AllocError>
     ensures { IfOk result (λ command. app_of command ≡ command_line) }
 {
-    let with_schedules = add_schedules(alloc, top_command(alloc))?;
-    let with_runs = add_runs(alloc, with_schedules)?;
-    let command = add_texts(alloc, with_runs)?;
-    Ok(command)
+    let mut line = top_command(alloc);
+    let mut left = CommandName::ALL.as_slice();
+    while let Some((name, rest)) = left.split_first() {
+        line = with_command(alloc, line, *name)?;
+        left = rest;
+    }
+    Ok(line)
 }
 
-/// Adds the commands that answer a schedule.
-fn add_schedules<'a>(alloc: Global, line: Command<'a>) -> Result<Command<'a>, AllocError>
+/// Adds a command to the program's command line.
+fn with_command<'a>(
+    alloc: Global,
+    line: Command<'a>,
+    name: CommandName,
+) -> Result<Command<'a>, AllocError>
     ensures { IfOk result (λ command. app_of command
-        ≡ fold with_subcommand (app_of line.entry) schedule_commands) }
+        ≡ with_subcommand (app_of line.entry) (line_of name)) }
 {
-    let command = line
-        .subcommand(text_command(alloc, "replay", REPLAY)?)?
-        .subcommand(text_command(alloc, "debug", DEBUG)?)?
-        .subcommand(json_command(alloc)?)?
-        .subcommand(picture_command(alloc)?)?
-        .subcommand(text_command(alloc, "expect", EXPECT)?)?;
-    Ok(command)
-}
-
-/// Adds the commands that make steps as they come.
-fn add_runs<'a>(alloc: Global, line: Command<'a>) -> Result<Command<'a>, AllocError>
-    ensures { IfOk result (λ command. app_of command
-        ≡ fold with_subcommand (app_of line.entry) run_commands) }
-{
-    let command = line
-        .subcommand(shell_command(alloc)?)?
-        .subcommand(run_command(alloc)?)?;
-    Ok(command)
-}
-
-/// Adds the commands about texts and words.
-fn add_texts<'a>(alloc: Global, line: Command<'a>) -> Result<Command<'a>, AllocError>
-    ensures { IfOk result (λ command. app_of command
-        ≡ fold with_subcommand (app_of line.entry) text_commands) }
-{
-    let command = line
-        .subcommand(check_command(alloc)?)?
-        .subcommand(text_command(alloc, "plain", PLAIN)?)?
-        .subcommand(explain_command(alloc)?)?
-        .subcommand(text_command(alloc, "version", PRINT_VERSION)?)?;
-    Ok(command)
+    let command = name.command(alloc)?;
+    let line = line.subcommand(command)?;
+    Ok(line)
 }
 
 /// The program's command line, without its commands.
@@ -334,6 +327,110 @@ fn top_command<'a>(alloc: Global) -> Command<'a>
         .subcommand_required(true)
         .about("A kernel held in memory, with transactions over processes")
         .version(VERSION)
+}
+
+/// A command of the program.
+#[derive(Clone, Copy)]
+enum CommandName {
+    Replay,
+    Debug,
+    Json,
+    Picture,
+    Expect,
+    Shell,
+    Run,
+    Check,
+    Plain,
+    Explain,
+    Version,
+}
+
+impl CommandName {
+    /// All, in the order in which help lists them.
+    const ALL: [CommandName; 11] = [
+        CommandName::Replay,
+        CommandName::Debug,
+        CommandName::Json,
+        CommandName::Picture,
+        CommandName::Expect,
+        CommandName::Shell,
+        CommandName::Run,
+        CommandName::Check,
+        CommandName::Plain,
+        CommandName::Explain,
+        CommandName::Version,
+    ];
+
+    /// The command that a word names.
+    fn of(word: &str) -> Option<CommandName>
+        ensures known { result ≡ command_named word.now }
+        ensures name { IfSome result (λ name. text_of name ≡ word.now) }
+    {
+        let mut left = CommandName::ALL.as_slice();
+        while let Some((name, rest)) = left.split_first() {
+            if name.as_str() == word {
+                return Some(*name);
+            }
+            left = rest;
+        }
+        None
+    }
+
+    /// The word that names it.
+    fn as_str<'a>(self) -> &'a str
+        ensures { result.now ≡ text_of self }
+    {
+        match self {
+            CommandName::Replay => "replay",
+            CommandName::Debug => "debug",
+            CommandName::Json => "json",
+            CommandName::Picture => "picture",
+            CommandName::Expect => "expect",
+            CommandName::Shell => "shell",
+            CommandName::Run => "run",
+            CommandName::Check => "check",
+            CommandName::Plain => "plain",
+            CommandName::Explain => "explain",
+            CommandName::Version => "version",
+        }
+    }
+
+    /// What help says of it.
+    fn help(self) -> Help {
+        match self {
+            CommandName::Replay => REPLAY,
+            CommandName::Debug => DEBUG,
+            CommandName::Json => JSON,
+            CommandName::Picture => PICTURE,
+            CommandName::Expect => EXPECT,
+            CommandName::Shell => SHELL,
+            CommandName::Run => RUN,
+            CommandName::Check => CHECK,
+            CommandName::Plain => PLAIN,
+            CommandName::Explain => EXPLAIN,
+            CommandName::Version => PRINT_VERSION,
+        }
+    }
+
+    /// It, with the words that it takes.
+    fn command<'a>(self, alloc: Global) -> Result<Command<'a>, AllocError>
+        ensures shape { IfOk result (λ command. (app_of command).top ≡ line_of self) }
+        ensures local { IfOk result (λ command. (out-Command command).has_globals ≡ false) }
+    {
+        match self {
+            CommandName::Json => json_command(alloc),
+            CommandName::Picture => picture_command(alloc),
+            CommandName::Shell => shell_command(alloc),
+            CommandName::Run => run_command(alloc),
+            CommandName::Check => check_command(alloc),
+            CommandName::Explain => explain_command(alloc),
+            CommandName::Replay
+            | CommandName::Debug
+            | CommandName::Expect
+            | CommandName::Plain
+            | CommandName::Version => Ok(command_with_help(alloc, self)),
+        }
+    }
 }
 
 /// What help says of a command: a line of what it does, how it is called, with a text as a file
@@ -411,20 +508,13 @@ const PRINT_VERSION: Help = Help {
     example: "Example: txos version",
 };
 
-/// A command with no words of its own.
-fn text_command<'a>(alloc: Global, name: &'a str, help: Help) -> Result<Command<'a>, AllocError>
-    ensures shape { IfOk result (λ command. (app_of command).top ≡ text_line name.now) }
-    ensures local { IfOk result (λ command. (out-Command command).has_globals ≡ false) }
-{
-    Ok(command_with_help(alloc, name, help))
-}
-
-/// A command of that name, with what help says of it.
-fn command_with_help<'a>(alloc: Global, name: &'a str, help: Help) -> Command<'a>
-    ensures shape { (app_of result).top ≡ text_line name.now }
+/// A command without its words, with what help says of it.
+fn command_with_help<'a>(alloc: Global, name: CommandName) -> Command<'a>
+    ensures shape { (app_of result).top ≡ text_line (text_of name) }
     ensures local { (out-Command result).has_globals ≡ false }
 {
-    Command::new(alloc, name)
+    let help = name.help();
+    Command::new(alloc, name.as_str())
         .about(help.about)
         .override_usage(help.usage)
         .after_help(help.example)
@@ -439,7 +529,7 @@ fn shell_command<'a>(alloc: Global) -> Result<Command<'a>, AllocError>
         .long("json")
         .help("Answer each line by a line of JSON")
         .action(ArgAction::SetTrue);
-    command_with_help(alloc, "shell", SHELL).arg(json)
+    command_with_help(alloc, CommandName::Shell).arg(json)
 }
 
 /// The command that answers by JSON, with the two numbers of a run.
@@ -453,7 +543,7 @@ fn json_command<'a>(alloc: Global) -> Result<Command<'a>, AllocError>
     let turns = turns_option(alloc).help(
         "How many turns each worker takes, 1 to 10000; wants --workers",
     );
-    let command = command_with_help(alloc, "json", JSON).arg(workers)?;
+    let command = command_with_help(alloc, CommandName::Json).arg(workers)?;
     command.arg(turns)
 }
 
@@ -464,7 +554,7 @@ fn picture_command<'a>(alloc: Global) -> Result<Command<'a>, AllocError>
 {
     let from = step_option(alloc, "from").help("The first step that is drawn, 1 to 4096");
     let to = step_option(alloc, "to").help("The last step that is drawn, 1 to 4096");
-    let command = command_with_help(alloc, "picture", PICTURE).arg(from)?;
+    let command = command_with_help(alloc, CommandName::Picture).arg(from)?;
     command.arg(to)
 }
 
@@ -486,7 +576,7 @@ fn check_command<'a>(alloc: Global) -> Result<Command<'a>, AllocError>
     let reader = Arg::new(alloc, "command").help(
         "That is to read it: replay, debug, run, picture or json; none: that of its kind",
     );
-    command_with_help(alloc, "check", CHECK).arg(reader)
+    command_with_help(alloc, CommandName::Check).arg(reader)
 }
 
 /// The command that runs a program, with its two numbers, both required.
@@ -500,7 +590,7 @@ fn run_command<'a>(alloc: Global) -> Result<Command<'a>, AllocError>
     let turns = turns_option(alloc)
         .help("How many turns each worker takes, 1 to 10000")
         .required(true);
-    let command = command_with_help(alloc, "run", RUN).arg(workers)?;
+    let command = command_with_help(alloc, CommandName::Run).arg(workers)?;
     command.arg(turns)
 }
 
@@ -532,5 +622,5 @@ fn explain_command<'a>(alloc: Global) -> Result<Command<'a>, AllocError>
     let word = Arg::new(alloc, "word").help(
         "A refusal, a fault, an error, a call, a word of a text; none: lists all",
     );
-    command_with_help(alloc, "explain", EXPLAIN).arg(word)
+    command_with_help(alloc, CommandName::Explain).arg(word)
 }

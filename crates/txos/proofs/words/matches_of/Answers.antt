@@ -1,4 +1,4 @@
-use Rattle.std.proofs.Common.{◌≡◌, ◌∙◌, map, rules, string_bytes, subst, sym}
+use Rattle.std.proofs.Common.{map, rules, string_bytes, subst}
 use Rattle.txos.proofs.CommandNamed.{fault_kind, no_fault, no_fault_names, parse_names, parse_rows}
 use Rattle.txos.specs.CommandLine.{command_names, SomeOneOf}
 use Rattle.txos.proofs.words.matches_of.Goals as goal
