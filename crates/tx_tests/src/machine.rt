@@ -1,8 +1,8 @@
-//! The machine: aborts by the kernel, free numbers, and footprints.
+//! The machine: aborts by the kernel, wide runs, free numbers, and footprints.
 use std::alloc::Global;
 use std::test::Fail;
 use tx_base::{Call, DescNo, NoMemory, Pid, PipeNo, Reply, Step};
-use tx_core::{Free, Machine, NoTransaction, run};
+use tx_core::{Free, Machine, NoTransaction, run, run_wide};
 use tx_reserve::{Object, Objects, footprint};
 
 /// The call of process 2.
@@ -40,6 +40,19 @@ fn aborts_by_the_kernel_and_back(rt: HostRuntime) -> Result<(), Fail> {
     let mut machine = Machine::boot_wide(rt.alloc(), 3)?;
     assert!(rt; begins(rt.alloc(), &mut machine) && has_one_to_abort(&mut machine));
     assert!(rt; is_aborted_and_back(&mut machine));
+    Ok(())
+}
+
+/// Whether process 65 of a wide run is answered its number.
+fn has_process_65(alloc: Global) -> Result<bool, NoMemory> {
+    let made = run_wide(alloc, 65, &[Step::Call(Pid(65), Call::Getpid)])?;
+    let mut replies = made.history.iter().map(|accepted| &accepted.reply);
+    Ok(replies.any(|reply| matches!(reply, Reply::Done(65))))
+}
+
+#[test]
+fn a_wide_run_has_more_processes(rt: HostRuntime) -> Result<(), Fail> {
+    assert!(rt; has_process_65(rt.alloc())?);
     Ok(())
 }
 

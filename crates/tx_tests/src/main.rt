@@ -43,8 +43,6 @@ mod texts;
 #[cfg(test)]
 mod turns;
 #[cfg(test)]
-mod undone;
-#[cfg(test)]
 mod workers;
 
 fn main() {}

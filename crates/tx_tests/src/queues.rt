@@ -24,7 +24,7 @@ fn queue_over<R: Threads + Wait + Sync, G: Gate + Sync>(
     gate: &G,
 ) -> Result<(Worked, Tally), Fail> {
     let program = read(alloc, program)?;
-    let session = session_of(alloc, program.header, &[])?;
+    let session = session_of(alloc, program.header.count, &[])?;
     Ok(run_queue(rt, alloc, session, &program, workers, turns, gate)?)
 }
 

@@ -5,24 +5,21 @@ ghost use Rattle.tx_journal.specs.Sessions.{IsAtEnd};
 use std::alloc::Global;
 use tx_base::{NoMemory, Step};
 use tx_journal::Session;
-use tx_lines::{Fault, Header, Version, read_schedule};
+use tx_lines::{Fault, read_schedule};
 
 /// A session in which the steps of the schedule are made that a text spells.
 pub(crate) fn session_after(alloc: Global, text: &str) -> Result<Session, Fault>
     ensures { IfOk result IsAtEnd }
 {
     let schedule = read_schedule(alloc, text.as_bytes())?;
-    Ok(session_of(alloc, schedule.header, schedule.steps.as_slice())?)
+    Ok(session_of(alloc, schedule.header.count, schedule.steps.as_slice())?)
 }
 
-/// A session in which the steps are made.
-pub(crate) fn session_of(alloc: Global, header: Header, steps: &[Step]) -> Result<Session, NoMemory>
+/// A session from so many processes, 1 to 64, in which the steps are made.
+pub(crate) fn session_of(alloc: Global, count: u16, steps: &[Step]) -> Result<Session, NoMemory>
     ensures { IfOk result IsAtEnd }
 {
-    let mut session = match header.version {
-        Version::One => Session::boot(alloc, header.count.clamp(1, 64))?,
-        Version::Two => Session::boot_wide(alloc, header.count.clamp(1, 256))?,
-    };
+    let mut session = Session::boot(alloc, count.clamp(1, 64))?;
     let _refused = make_steps(alloc, &mut session, steps);
     Ok(session)
 }
