@@ -19,11 +19,20 @@ use tx_proc::Answer;
 const FIRST_PLACES: usize = 2;
 
 /// Old parts, the oldest first. Led back, it gives the parts before the oldest was kept.
-#[derive(Drop)]
 pub struct Log {
     changes: Vec<Change>,
     /// The newest old part, if that is an answer which is apart.
     answer: Option<Answered>,
+}
+
+// Not derived: that would be proved again wherever one is dropped.
+impl Drop for Log {
+    fn drop(self) {
+        let Log {
+            changes: _changes,
+            answer: _answer,
+        } = self;
+    }
 }
 
 impl Model for Log {

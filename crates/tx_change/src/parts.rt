@@ -12,11 +12,21 @@ use tx_proc::{BoxedProc, Proc, ProcTable};
 
 /// The parts of the kernel: what each number of a process, of a description and of
 /// a pipe has.
-#[derive(Drop)]
 pub struct Parts {
     pub procs: ProcTable,
     pub descs: Descs,
     pub pipes: PipeTable,
+}
+
+// Not derived: that would be proved again wherever one is dropped.
+impl Drop for Parts {
+    fn drop(self) {
+        let Parts {
+            procs: _procs,
+            descs: _descs,
+            pipes: _pipes,
+        } = self;
+    }
 }
 
 impl Parts {

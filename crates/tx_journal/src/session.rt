@@ -24,7 +24,6 @@ use tx_lines::{Header, Version};
 /// A machine with the journal of all steps that it accepted, which can be walked both ways.
 /// Contracts see what it keeps: its machine's content, all entries, and what takes back those that
 /// are made.
-#[derive(Drop)]
 pub struct Session {
     pub(crate) machine: Machine,
     pub(crate) journal: Journal,
@@ -32,6 +31,18 @@ pub struct Session {
     width: u16,
     /// With how many it was booted.
     count: u16,
+}
+
+// Not derived: that would be proved again wherever one is dropped.
+impl Drop for Session {
+    fn drop(self) {
+        let Session {
+            machine: _machine,
+            journal: _journal,
+            width: _width,
+            count: _count,
+        } = self;
+    }
 }
 
 impl Model for Session {

@@ -19,7 +19,6 @@ use tx_script::Form;
 use tx_translate::{Room, second_stays_itself};
 
 /// A session at a terminal, the form of its answers, and the version of its lines.
-#[derive(Drop)]
 pub struct Shell {
     interpreter: Interpreter,
     /// Whether only lines without a word came so far, so that a header may come.
@@ -28,6 +27,18 @@ pub struct Shell {
     step: Step,
     /// Where its reply is put, since a reply is large too.
     reply: Reply,
+}
+
+// Not derived: that would be proved again wherever one is dropped.
+impl Drop for Shell {
+    fn drop(self) {
+        let Shell {
+            interpreter: _interpreter,
+            is_fresh: _is_fresh,
+            step: _step,
+            reply: _reply,
+        } = self;
+    }
 }
 
 impl Shell {

@@ -25,7 +25,6 @@ use tx_proc::Proc as Process;
 use tx_reserve::{Objects, Reservations};
 
 /// A live transaction: what leads back to where it began, and what it holds until it commits.
-#[derive(Drop)]
 pub struct Txn {
     /// The process that began it, whose number names it.
     pub starter: Pid,
@@ -41,6 +40,21 @@ pub struct Txn {
     pub objects: Objects,
     /// Who its members were, if it has ended.
     pub members: Option<Members>,
+}
+
+// Not derived: that would be proved again wherever one is dropped.
+impl Drop for Txn {
+    fn drop(self) {
+        let Txn {
+            starter: _starter,
+            defers: _defers,
+            kept: _kept,
+            log: _log,
+            outbox: _outbox,
+            objects: _objects,
+            members: _members,
+        } = self;
+    }
 }
 
 impl Txn {
